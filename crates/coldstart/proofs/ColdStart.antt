@@ -1,0 +1,252 @@
+-- Laws of the cold starts: ranges of B, Q, X and the cold factor, and its distance from the factor without rounding.
+-- Assumes nothing.
+use mathlib.Core.Path.{_≡_, refl, sym, ap, _∙_, subst}
+use mathlib.Core.Bool.{Bool, true, false, not, cond, _&&_}
+use mathlib.Core.List.{List, [], _∷_}
+use Prim.Native.Nat.{ℕ, zero, suc, _+_, _*_, _-_, _/_, _%_, _≤_, _<_}
+use native.Mathlib.Nat.{mul-le-mul-left, mul-le-mul}
+use native.Mathlib.Omega.{arith}
+use borrow.Author.Tests.{ltb-true}
+use lib.Dec.{T, eqb, eqb→eq, ltb, leb, leb→le, le→leb, ltb→lt, lit<}
+use lib.IntN.{ℤ, pos, negsuc, negℤ, natAbs, subℕ, negℤ-negℤ, _+ℤ_, _-ℤ_, _*ℤ_}
+use lib.ListN.{getD}
+use lib.Signed.{nonNeg, ltZ, leZ, leZ-yes, _≤ℤ_, pos-natAbs}
+use mir.Syntax.{w64}
+use mir.Val.{toZ, ofZ}
+use Rattle.units.specs.Lists.{sumTo, allBelow}
+use Rattle.units.specs.Rounding.{halfUp}
+use Rattle.units.specs.Sizes.{Within}
+use Rattle.units.proofs.Tests.{at, computed, and-left, and-right, T-true, true-T}
+use Rattle.units.proofs.Rounds as rounds
+use Rattle.units.proofs.Signed.{Step, arg}
+use Rattle.coldstart.specs.ColdStart.{temperatureOk, coldShare, Slope, slope, slopes, pairs, SlopeLimits, slopeOf, coldRatio, orZero, coldExcess, monthProduct, monthAt, coldSum, coldDenominator, coldX, coldFactor, Climate}
+
+-- ---- differences of whole numbers
+
+cond-pos : (t : Bool) (a b : ℕ) → (T t → a < b) → b ≤ a → cond t (negsuc (b - suc a)) (pos (a - b)) ≡ pos (a - b)
+cond-pos true a b h l = let k : a < b = h tt in absurd (omega arith)
+cond-pos false a b h l = refl
+
+sub-pos : (a b : ℕ) → b ≤ a → pos a -ℤ pos b ≡ pos (a - b)
+sub-pos a zero h = ap pos (omega arith)
+sub-pos a (suc b) h = cond-pos (ltb a (suc b)) a (suc b) (ltb→lt a (suc b)) h
+
+cond-zero : (t : Bool) (a b : ℕ) → (T t → a < b) → orZero (cond t (negsuc (b - suc a)) (pos (a - b))) ≡ a - b
+cond-zero true a b h = let k : a < b = h tt in omega arith
+cond-zero false a b h = refl
+
+sub-zero : (a b : ℕ) → orZero (subℕ a b) ≡ a - b
+sub-zero a b = cond-zero (ltb a b) a b (ltb→lt a b)
+
+or-zero-sub : (z : ℤ) (b : ℕ) → orZero (z -ℤ pos b) ≡ orZero z - b
+or-zero-sub (pos a) zero = omega arith
+or-zero-sub (pos a) (suc b) = sub-zero a (suc b)
+or-zero-sub (negsuc a) zero = sub-zero 0 (suc a) ∙ omega arith
+or-zero-sub (negsuc a) (suc b) = omega arith
+
+negative-zero : (z : ℤ) → ltZ z (pos 0) ≡ true → orZero z ≡ 0
+negative-zero (pos a) e = let h : a < 0 = ltb-true a 0 e in omega arith
+negative-zero (negsuc a) e = refl
+
+else-nonNeg : (z : ℤ) → ltZ z (pos 0) ≡ false → T (nonNeg z)
+else-nonNeg (pos a) e = tt
+else-nonNeg (negsuc a) e = subst T e tt
+
+natAbs-zero : (z : ℤ) → T (nonNeg z) → natAbs z ≡ orZero z
+natAbs-zero (pos a) t = refl
+natAbs-zero (negsuc a) t = absurd t
+
+-- a signed value that was tested against 0
+module _ {m : ℕ} {x z : ℤ} (s : Step m x z) where
+  pub negative : ltZ x (pos 0) ≡ true → 0 ≡ orZero z
+  negative e = sym (negative-zero z (ap (λ (y : ℤ). ltZ y (pos 0)) (sym (s .same)) ∙ e))
+
+  pub not-negative : ltZ x (pos 0) ≡ false → T (nonNeg z)
+  not-negative e = else-nonNeg z (ap (λ (y : ℤ). ltZ y (pos 0)) (sym (s .same)) ∙ e)
+
+  pub cast-zero : T (nonNeg z) → natAbs x ≡ orZero z
+  cast-zero t = ap natAbs (s .same) ∙ natAbs-zero z t
+
+-- ---- a temperature in range
+
+low-side : (t : ℤ) → temperatureOk t ≡ true → T (leZ (negℤ (pos 300)) t)
+unfolding temperatureOk
+low-side t e = true-T (leZ (negℤ (pos 300)) t) (and-left (leZ (negℤ (pos 300)) t) (leZ t (pos 400)) e)
+
+high-side : (t : ℤ) → temperatureOk t ≡ true → T (leZ t (pos 400))
+unfolding temperatureOk
+high-side t e = true-T (leZ t (pos 400)) (and-right (leZ (negℤ (pos 300)) t) (leZ t (pos 400)) e)
+
+pub temperature-size : (t : ℤ) → temperatureOk t ≡ true → Within 400 t
+temperature-size (pos n) e = record { size = leb→le n 400 (high-side (pos n) e) }
+temperature-size (negsuc n) e = let h : n ≤ 299 = leb→le n 299 (low-side (negsuc n) e) in record { size = omega arith }
+
+-- read back from its bits
+pub read : (t : ℤ) → temperatureOk t ≡ true → toZ w64 (ofZ w64 t) ≡ t
+read t e = arg tt (temperature-size t e) .same
+
+pub read-ok : (t : ℤ) → temperatureOk t ≡ true → temperatureOk (toZ w64 (ofZ w64 t)) ≡ true
+read-ok t e = ap temperatureOk (read t e) ∙ e
+
+-- ---- B
+
+-- z is a whole number of at most m
+pub record Whole (m : ℕ) (z : ℤ) : Type 0 where
+  pub same : z ≡ pos (natAbs z)
+  pub most : natAbs z ≤ m
+
+is-whole : {n m : ℕ} {z : ℤ} → z ≡ pos n → n ≤ m → Whole m z
+is-whole {n} {m} {z} e h = record { same = e ∙ ap pos (sym (ap natAbs e)); most = subst (λ (k : ℕ). k ≤ m) (sym (ap natAbs e)) h }
+
+module _ (l : ℕ) (low : 10 ≤ l) (high : l ≤ 200) where
+  base : pos 64700000 -ℤ pos 250000 *ℤ pos l ≡ pos (64700000 - 250000 * l)
+  base = sub-pos 64700000 (250000 * l) (omega arith)
+
+  fall : pos 97400 -ℤ pos 385 *ℤ pos l ≡ pos (97400 - 385 * l)
+  fall = sub-pos 97400 (385 * l) (omega arith)
+
+  -- B with its two whole parts computed first
+  pub share-parts : (t : ℤ) → pos (64700000 - 250000 * l) -ℤ pos (97400 - 385 * l) *ℤ t ≡ coldShare l t
+  unfolding coldShare
+  share-parts t = sym (λ i. base i -ℤ fall i *ℤ t)
+
+  pub share-whole : (t : ℤ) → temperatureOk t ≡ true → Whole 90265000 (coldShare l t)
+  unfolding coldShare
+  share-whole (pos n) w =
+      let k = 97400 - 385 * l in
+      let h : k * n ≤ k * 400 = mul-le-mul-left k (leb→le n 400 (high-side (pos n) w)) in
+      is-whole ((λ i. base i -ℤ fall i *ℤ pos n) ∙ sub-pos (64700000 - 250000 * l) (k * n) (omega arith)) (omega arith)
+  share-whole (negsuc n) w =
+      let k = 97400 - 385 * l in
+      let h : k * suc n ≤ k * 300 = mul-le-mul-left k (omega (arith, leb→le n 299 (low-side (negsuc n) w))) in
+      is-whole ((λ i. base i -ℤ fall i *ℤ negsuc n) ∙ ap (λ (z : ℤ). pos (64700000 - 250000 * l) +ℤ z) (negℤ-negℤ (pos (k * suc n)))) (omega arith)
+
+whole-range : (m : ℕ) (z : ℤ) → Whole m z → (pos 0 ≤ℤ z) × (z ≤ℤ pos m)
+whole-range m z w = subst (λ (y : ℤ). (pos 0 ≤ℤ y) × (y ≤ℤ pos m)) (sym (w .same)) (leZ-yes (le→leb 0 (natAbs z) (omega arith)), leZ-yes (le→leb (natAbs z) m (w .most)))
+
+wider : {m n : ℕ} {z : ℤ} → Whole m z → m ≤ n → Whole n z
+wider w h = record { same = w .same; most = omega (arith, w .most) }
+
+module _ (l : ℕ) (ts : List ℤ) (c : Climate l ts) where
+  month-whole : (k : ℕ) → k < 12 → Whole 90265000 (coldShare l (getD ts k (pos 0)))
+  month-whole k h = share-whole l (c .trip-low) (c .trip-high) (getD ts k (pos 0)) (c .temperatures k h)
+
+  -- document 01: inside the limits of a head B lies between 0 and 1
+  pub share-range : (k : ℕ) → k < 12 → (pos 0 ≤ℤ coldShare l (getD ts k (pos 0))) × (coldShare l (getD ts k (pos 0)) ≤ℤ pos 100000000)
+  share-range k h = whole-range 100000000 (coldShare l (getD ts k (pos 0))) (wider (month-whole k h) (omega arith))
+
+  -- and nothing of it is cut
+  pub share-kept : (k : ℕ) → k < 12 → pos (natAbs (coldShare l (getD ts k (pos 0)))) ≡ coldShare l (getD ts k (pos 0))
+  share-kept k h = sym (month-whole k h .same)
+
+-- ---- Q
+
+ratio-most : (s : Slope) (t : ℤ) → SlopeLimits s → temperatureOk t ≡ true → orZero (coldRatio s t) ≤ 64000
+unfolding coldRatio
+ratio-most s (pos n) g w = omega (arith, or-zero-sub (pos (s .p)) (s .q * n), g .at-zero)
+ratio-most s (negsuc n) g w =
+    let h : s .q * suc n ≤ s .q * 300 = mul-le-mul-left (s .q) (omega (arith, leb→le n 299 (low-side (negsuc n) w))) in
+    subst (λ (k : ℕ). k ≤ 64000) (sym (ap (λ (z : ℤ). orZero (pos (s .p) +ℤ z)) (negℤ-negℤ (pos (s .q * suc n))))) (omega (arith, g .cold))
+
+pub excess-most : (s : Slope) (t : ℤ) → SlopeLimits s → temperatureOk t ≡ true → coldExcess s t ≤ 54000
+unfolding coldExcess
+excess-most s t g w = omega (arith, or-zero-sub (coldRatio s t) 10000, ratio-most s t g w)
+
+pub month-most : (l : ℕ) (s : Slope) (t : ℤ) → 10 ≤ l → l ≤ 200 → SlopeLimits s → temperatureOk t ≡ true → monthProduct l s t ≤ 4874310000000
+unfolding monthProduct
+month-most l s t low high g w = mul-le-mul (share-whole l low high t w .most) (excess-most s t g w)
+
+-- ---- the table of p and q
+
+unfoldable pub entry : ℕ → Slope
+entry i = getD slopes i (slope 0 0)
+
+-- an entry's pair is read off the table, and the entry is in its limits
+entry-rule : ℕ → Bool
+entry-rule i =
+    (eqb (getD (getD (pairs slopes) i []) 0 0) (entry i .p) && eqb (getD (getD (pairs slopes) i []) 1 0) (entry i .q)) &&
+    (leb (entry i .p) 37000 && (leb (entry i .q) 100 && leb (entry i .p + 300 * entry i .q) 64000))
+
+every-entry : T (allBelow entry-rule 15)
+unfolding allBelow entry-rule pairs slopes entry
+every-entry = tt
+
+module _ (i : ℕ) (h : i < 15) where
+  facts : (eqb (getD (getD (pairs slopes) i []) 0 0) (entry i .p) ≡ true) × (eqb (getD (getD (pairs slopes) i []) 1 0) (entry i .q) ≡ true) × (leb (entry i .p) 37000 ≡ true) × (leb (entry i .q) 100 ≡ true) × (leb (entry i .p + 300 * entry i .q) 64000 ≡ true)
+  unfolding entry-rule
+  facts =
+      let a = eqb (getD (getD (pairs slopes) i []) 0 0) (entry i .p) in
+      let b = eqb (getD (getD (pairs slopes) i []) 1 0) (entry i .q) in
+      let u = leb (entry i .p) 37000 in
+      let v = leb (entry i .q) 100 in
+      let w = leb (entry i .p + 300 * entry i .q) 64000 in
+      let t = T-true (entry-rule i) (computed entry-rule 15 every-entry i h) in
+      let l = and-left (a && b) (u && (v && w)) t in
+      let r = and-right (a && b) (u && (v && w)) t in
+      let r2 = and-right u (v && w) r in
+      (and-left a b l, and-right a b l, and-left u (v && w) r, and-left v w r2, and-right v w r2)
+
+  pub entry-limits : SlopeLimits (entry i)
+  entry-limits =
+      record {
+        at-zero = leb→le (entry i .p) 37000 (true-T (leb (entry i .p) 37000) (facts .2));
+        fall = leb→le (entry i .q) 100 (true-T (leb (entry i .q) 100) (facts .3));
+        cold = leb→le (entry i .p + 300 * entry i .q) 64000 (true-T (leb (entry i .p + 300 * entry i .q) 64000) (facts .4));
+      }
+
+  -- the pair that the code reads is the entry
+  pub entry-read : (t : List (List ℕ)) → t ≡ pairs slopes → slope (getD (getD t i []) 0 0) (getD (getD t i []) 1 0) ≡ entry i
+  entry-read t e =
+      let a : getD (getD (pairs slopes) i []) 0 0 ≡ entry i .p = eqb→eq (getD (getD (pairs slopes) i []) 0 0) (entry i .p) (true-T (eqb (getD (getD (pairs slopes) i []) 0 0) (entry i .p)) (facts .0)) in
+      let b : getD (getD (pairs slopes) i []) 1 0 ≡ entry i .q = eqb→eq (getD (getD (pairs slopes) i []) 1 0) (entry i .q) (true-T (eqb (getD (getD (pairs slopes) i []) 1 0) (entry i .q)) (facts .1)) in
+      rw e (λ j. slope (a j) (b j))
+
+  -- the sum over twelve months of the entry i, by fuel and quantity
+  pub sum-entry : (l : ℕ) (ts : List ℤ) → coldSum l ts (i / 5) (i % 5) ≡ sumTo (monthAt l (entry i) ts) 12
+  unfolding coldSum entry
+  sum-entry l ts = let e : i / 5 * 5 + i % 5 ≡ i = omega arith in ap (λ (n : ℕ). sumTo (monthAt l (getD slopes n (slope 0 0)) ts) 12) e
+
+-- ---- the sum over twelve months, X and the cold factor
+
+pub sum-most : (l : ℕ) (ts : List ℤ) → Climate l ts → (f q : ℕ) → f < 3 → q < 5 → coldSum l ts f q ≤ 58800000000000
+unfolding coldSum entry
+sum-most l ts c f q hf hq =
+    let s = slopeOf f q in
+    let g : SlopeLimits s = entry-limits (f * 5 + q) (omega arith) in
+    omega (arith, rounds.sum-most (monthAt l s ts) 4874310000000 12 (λ k h. month-most l s (getD ts k (pos 0)) (c .trip-low) (c .trip-high) g (c .temperatures k h)))
+
+-- document 01: each X is at most 4,900,000,000
+pub x-most : (l : ℕ) (ts : List ℤ) → Climate l ts → (i : ℕ) → i < 15 → coldX l ts i ≤ 4900000000
+unfolding coldX halfUp
+x-most l ts c i h = omega (arith, sum-most l ts c (i / 5) (i % 5) (omega arith) (omega arith))
+
+pub cold-factor-most : (e x : ℕ) → e ≤ 2000000000 → x ≤ 4900000000 → coldFactor e x ≤ 9800000000
+unfolding coldFactor halfUp
+cold-factor-most e x he hx = omega (arith, rounds.mul-most e x 2000000000 4900000000 he hx)
+
+-- the rounded cold factor against the exact one, per kilometre in units of 1 / (12,000 × 10^16) g: at most 1.8 × 10^13 apart
+module _ (e s : ℕ) (small : e ≤ 2000000000) where
+  pub cold-high : coldFactor e (halfUp s 12000) * 12000000000000 ≤ e * s + 18000000000000
+  unfolding coldFactor
+  cold-high =
+      let x : ℕ = halfUp s 12000 in
+      let a : 2 * (halfUp (e * x) 1000000000 * 1000000000) ≤ 2 * (e * x) + 1000000000 = rounds.half-up-high (e * x) 1000000000 in
+      let b : e * (2 * (x * 12000)) ≤ e * (2 * s + 12000) = mul-le-mul-left e (rounds.half-up-high s 12000) in
+      omega arith
+
+  pub cold-low : e * s ≤ coldFactor e (halfUp s 12000) * 12000000000000 + 18000000000000
+  unfolding coldFactor
+  cold-low =
+      let x : ℕ = halfUp s 12000 in
+      let a : 2 * (e * x) ≤ 2 * (halfUp (e * x) 1000000000 * 1000000000) + 1000000000 = rounds.half-up-low (e * x) 1000000000 (lit< tt) in
+      let b : e * (2 * s) ≤ e * (2 * (x * 12000) + 12000) = mul-le-mul-left e (rounds.half-up-low s 12000 (lit< tt)) in
+      omega arith
+
+-- ---- a head that opening takes
+
+-- the temperature of month k is in range
+abbrev pub monthOk : List ℤ → ℕ → Bool
+monthOk ts k = temperatureOk (getD ts k (pos 0))
+
+pub climate-of : (l : ℕ) (ts : List ℤ) → 10 ≤ l → l ≤ 200 → allBelow (monthOk ts) 12 ≡ true → Climate l ts
+climate-of l ts low high h = record { trip-low = low; trip-high = high; temperatures = λ k b. at (monthOk ts) 12 h k b }

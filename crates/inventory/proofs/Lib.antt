@@ -1,0 +1,4 @@
+pub mod Order
+pub mod Records
+pub mod Adding
+pub mod Totals

@@ -1,0 +1,124 @@
+-- Laws of printed kinds and totals. Assumes nothing.
+use mathlib.Core.Path.{_≡_, refl, ap, sym, _∙_}
+use mathlib.Core.Bool.{Bool, true, false, not, cond}
+use mathlib.Core.List.{List, [], _∷_}
+use Prim.Native.Nat.{ℕ, _+_, _*_, _-_, _/_, _≤_, _<_}
+use native.Mathlib.Omega.{arith}
+use lib.Dec.{lit<, eqb}
+use Rattle.units.specs.declared.Refusal.{Refusal}
+use Rattle.units.specs.declared.Verdict.{Verdict}
+use Rattle.units.specs.declared.Verdict.the-variants.{Taken, Refused}
+use Rattle.units.specs.declared.Grams.{Grams}
+use Rattle.units.specs.Refusals.{refusalNumber, verdictNumber}
+use Rattle.units.proofs.Refusals.{number-positive, taken-number, refused-number}
+use Rattle.units.proofs.Grounds.{passed}
+use Rattle.units.proofs.Tests.{inside-low, inside-high}
+use borrow.Author.Tests.{not-true, not-false}
+use Rattle.units.specs.Grounds.{firstFit, outside, ground}
+use Rattle.units.specs.Rounding.{halfUp}
+use Rattle.units.proofs.Rounds.{half-up-high, half-up-low}
+use Rattle.inventory.specs.declared.Run.{Run}
+use Rattle.inventory.specs.Order.{inOrder, gramsIn, restIn, sumAt}
+use Rattle.inventory.specs.Printed.{place, kindPlace, printedKind, exactTotal, printedTotal, totalGrounds, Answer, answered, printedAnswer}
+use Rattle.inventory.specs.declared.Kind.{Kind}
+use Rattle.inventory.specs.declared.Kind.the-variants as kinds
+use Rattle.inventory.specs.declared.Printed.{Printed}
+use Rattle.inventory.specs.declared.Printed.the-variants as printed
+
+-- whole grams come out of half up
+pub half-grams : (g r : ℕ) → g + (r + 500000000) / 1000000000 ≡ halfUp (g * 1000000000 + r) 1000000000
+unfolding halfUp
+half-grams g r = omega arith
+
+pub total-grams : (a b c d p q r s : ℕ)
+    → a + b + c + d + (p + q + r + s + 500000000) / 1000000000
+    ≡ halfUp (a * 1000000000 + p + (b * 1000000000 + q) + (c * 1000000000 + r) + (d * 1000000000 + s)) 1000000000
+unfolding halfUp
+total-grams a b c d p q r s = omega arith
+
+-- the printed total from its four sums
+pub total-made : (run : Run) (fuel quantity j : ℕ) → j ≡ fuel * 20 + quantity * 4
+    → gramsIn run j + gramsIn run (j + 1) + gramsIn run (j + 2) + gramsIn run (j + 3)
+    + (restIn run j + restIn run (j + 1) + restIn run (j + 2) + restIn run (j + 3) + 500000000) / 1000000000
+    ≡ printedTotal run fuel quantity
+unfolding printedTotal exactTotal sumAt
+total-made run fuel quantity j e =
+    let a : place fuel quantity 0 ≡ j = omega arith in
+    let b : place fuel quantity 1 ≡ j + 1 = omega arith in
+    let c : place fuel quantity 2 ≡ j + 2 = omega arith in
+    let d : place fuel quantity 3 ≡ j + 3 = omega arith in
+    rw (a, b, c, d) (total-grams _ _ _ _ _ _ _ _)
+
+-- the four printed kinds miss the printed total by at most 2 g
+pub record KindsNear (kinds total : ℕ) : Type 0 where
+  pub high : kinds ≤ total + 2
+  pub low : total ≤ kinds + 2
+
+pub kinds-near : (run : Run) (fuel quantity : ℕ)
+    → KindsNear (printedKind run fuel quantity 0 + printedKind run fuel quantity 1 + printedKind run fuel quantity 2 + printedKind run fuel quantity 3)
+    (printedTotal run fuel quantity)
+unfolding printedKind printedTotal exactTotal halfUp
+kinds-near run fuel quantity = record { high = omega arith; low = omega arith }
+
+-- a kind is one of four
+pub kind-below : (kind : Kind) → kindPlace kind < 4
+kind-below kinds.Urban = omega arith
+kind-below kinds.Rural = omega arith
+kind-below kinds.Highway = omega arith
+kind-below kinds.Cold = omega arith
+
+-- the printed kind at its place
+pub kind-made : (run : Run) (fuel quantity k : ℕ) (kind : Kind) (g : ℕ) → k ≡ kindPlace kind
+    → g ≡ halfUp (sumAt run (fuel * 20 + quantity * 4 + k)) 1000000000 → g ≡ printedKind run fuel quantity (kindPlace kind)
+unfolding printedKind
+kind-made run fuel quantity k kind g e h = rw (sym e) h
+
+-- ---- the grounds of a question
+
+module _ (run : Run) (fuel quantity : ℕ) where
+  pub refused-order : inOrder run ≡ false → 16 ≡ firstFit (totalGrounds run fuel quantity)
+  unfolding firstFit totalGrounds
+  refused-order o = rw o
+
+  pub refused-fuel : inOrder run ≡ true → outside 1 3 fuel ≡ true → 11 ≡ firstFit (totalGrounds run fuel quantity)
+  unfolding firstFit totalGrounds
+  refused-fuel o f = rw (o, f)
+
+  pub refused-quantity : inOrder run ≡ true → outside 1 3 fuel ≡ false → outside 1 5 quantity ≡ true
+      → 11 ≡ firstFit (totalGrounds run fuel quantity)
+  unfolding firstFit totalGrounds
+  refused-quantity o f q = rw (o, f, q)
+
+  pub asked : inOrder run ≡ true → outside 1 3 fuel ≡ false → outside 1 5 quantity ≡ false → 0 ≡ firstFit (totalGrounds run fuel quantity)
+  unfolding firstFit totalGrounds
+  asked o f q = rw (o, f, q)
+
+-- what a question has that no ground fits
+pub record Asked (run : Run) (fuel quantity : ℕ) : Type 0 where
+  pub order : inOrder run ≡ true
+  pub fuel-low : 1 ≤ fuel
+  pub fuel-high : fuel ≤ 3
+  pub quantity-low : 1 ≤ quantity
+  pub quantity-high : quantity ≤ 5
+
+pub asked-of : (run : Run) (fuel quantity : ℕ) → firstFit (totalGrounds run fuel quantity) ≡ 0 → Asked run fuel quantity
+unfolding totalGrounds
+asked-of run fuel quantity z =
+    let p = passed (totalGrounds run fuel quantity) tt z in
+    record {
+      order = not-false (inOrder run) (p .0);
+      fuel-low = inside-low 1 3 fuel (p .1 .0);
+      fuel-high = inside-high 1 3 fuel (p .1 .0);
+      quantity-low = inside-low 1 5 quantity (p .1 .1 .0);
+      quantity-high = inside-high 1 5 quantity (p .1 .1 .0);
+    }
+
+-- ---- the answer by the verdict on its question
+
+pub answer-refused : (v : Verdict) (r : Refusal) (n g : ℕ) → v ≡ Refused r → verdictNumber v ≡ n → printedAnswer (printed.Refused r) ≡ answered n g
+unfolding printedAnswer answered
+answer-refused v r n g e h = rw (refused-number v r n e h, number-positive r)
+
+pub answer-given : (v : Verdict) (n : ℕ) (g : Grams) (m : ℕ) → v ≡ Taken → verdictNumber v ≡ n → g .0 ≡ m → printedAnswer (printed.Given g) ≡ answered n m
+unfolding printedAnswer answered
+answer-given v n g m e h k = rw (taken-number v n e h, k)

@@ -1,0 +1,23 @@
+-- The bounds of accepted records and of runs in order that keep every step of the code in 64 bits: what inner functions require.
+-- Assumes nothing.
+use Prim.Native.Nat.{ℕ, _*_, _≤_, _<_}
+use lib.ListN.{getD}
+use Rattle.factors.specs.Factors.{Driven}
+use Rattle.inventory.specs.declared.Record.{Record}
+use Rattle.inventory.specs.declared.Run.{Run}
+use Rattle.inventory.specs.Records.{vehicleKm, shareOf, speedOf}
+use Rattle.inventory.specs.Order.{gramsIn, restIn, kmIn, recordLimit}
+
+-- a record that no ground of its own fits
+pub record RecordLimits (rec : Record) : Type 0 where
+  pub distance : vehicleKm rec ≤ 1000000000
+  pub share : (road : ℕ) → road < 3 → shareOf rec road ≤ 100
+  pub driven : (road : ℕ) → road < 3 → Driven (rec .class) (speedOf rec road)
+
+-- a run in order
+pub record RunLimits (run : Run) : Type 0 where
+  pub few : run .count ≤ recordLimit
+  pub x-most : (i : ℕ) → i < 15 → getD (run .x) i 0 ≤ 4900000000
+  pub rest-below : (j : ℕ) → j < 60 → restIn run j < 1000000000
+  pub grams-most : (j : ℕ) → j < 60 → gramsIn run j ≤ 5000000000000000
+  pub km-most : (fuel : ℕ) → fuel < 3 → kmIn run fuel ≤ 5000000000000
