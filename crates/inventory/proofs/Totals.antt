@@ -19,6 +19,7 @@ use Rattle.units.specs.Rounding.{halfUp}
 use Rattle.units.proofs.Rounds.{half-up-high, half-up-low}
 use Rattle.inventory.specs.declared.Run.{Run}
 use Rattle.inventory.specs.Order.{inOrder, gramsIn, restIn, sumAt}
+use Rattle.inventory.proofs.Order.{sum-most, count-of}
 use Rattle.inventory.specs.Printed.{place, kindPlace, printedKind, exactTotal, printedTotal, totalGrounds, Answer, answered, printedAnswer}
 use Rattle.inventory.specs.declared.Kind.{Kind}
 use Rattle.inventory.specs.declared.Kind.the-variants as kinds
@@ -59,6 +60,20 @@ pub kinds-near : (run : Run) (fuel quantity : ℕ)
     (printedTotal run fuel quantity)
 unfolding printedKind printedTotal exactTotal halfUp
 kinds-near run fuel quantity = record { high = omega arith; low = omega arith }
+
+-- in a run in order a printed kind is at most 5 × 10^15 g, and a printed total at most 2 × 10^16 g
+sum-at-most : (run : Run) → inOrder run ≡ true → (j : ℕ) → j < 60 → sumAt run j ≤ 5000000000000000000000000
+sum-at-most run o j h = omega (arith, sum-most run o j h, count-of run o)
+
+pub kind-most : (run : Run) → inOrder run ≡ true → (fuel quantity kind : ℕ) → fuel < 3 → quantity < 5 → kind < 4
+    → printedKind run fuel quantity kind ≤ 5000000000000000
+unfolding printedKind halfUp
+kind-most run o fuel quantity kind a b d = omega (arith, sum-at-most run o (place fuel quantity kind) (omega arith))
+
+pub total-most : (run : Run) → inOrder run ≡ true → (fuel quantity : ℕ) → fuel < 3 → quantity < 5 → printedTotal run fuel quantity ≤ 20000000000000000
+unfolding printedTotal exactTotal halfUp
+total-most run o fuel quantity a b =
+    omega (arith, sum-at-most run o (place fuel quantity 0) (omega arith), sum-at-most run o (place fuel quantity 1) (omega arith), sum-at-most run o (place fuel quantity 2) (omega arith), sum-at-most run o (place fuel quantity 3) (omega arith))
 
 -- a kind is one of four
 pub kind-below : (kind : Kind) → kindPlace kind < 4

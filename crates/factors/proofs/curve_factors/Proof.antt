@@ -63,7 +63,7 @@ index-2-c c = omega (arith, c .before .before .before .loop .inv .0, c .before .
 value-at-requires : tie.Need-value-at-requires Inv-loop μ-loop
 value-at-requires c κs =
     let s = c .before .before .before .before .before in
-    read-small (s .args .t .now) (s .args .class) (c .before .before .before .before .loop .q) (s .args .urban .0) (s .pre .0 .0) (s .pre .1 .0) (omega (arith, c .before .before .before .loop-test .taken))
+    read-small (s .args .t .now) (s .args .class) (c .before .before .before .before .loop .q) _ (s .pre .0 .0) (search (s .pre .1)) (omega (arith, c .before .before .before .loop-test .taken))
 
 mul-f : tie.Need-mul-f Inv-loop μ-loop
 mul-f c = omega (arith, c .before .before .before .before .before .loop .inv .0, c .before .before .before .before .before .loop .inv .1, c .before .before .before .before .loop-test .taken)
@@ -77,7 +77,7 @@ array-write-f c = omega (arith, c .before .before .before .before .before .loop 
 value-at-requires-2 : tie.Need-value-at-requires-2 Inv-loop μ-loop
 value-at-requires-2 c κs =
     let s = c .before .before .before .before .before .before in
-    read-small (s .args .t .now) (s .args .class) (c .before .before .before .before .before .loop .q) (s .args .rural .0) (s .pre .0 .0) (s .pre .1 .1) (omega (arith, c .before .before .before .before .loop-test .taken))
+    read-small (s .args .t .now) (s .args .class) (c .before .before .before .before .before .loop .q) _ (s .pre .0 .0) (search (s .pre .1)) (omega (arith, c .before .before .before .before .loop-test .taken))
 
 mul-f-3 : tie.Need-mul-f-3 Inv-loop μ-loop
 mul-f-3 c = omega (arith, c .before .before .before .before .before .before .loop .inv .0, c .before .before .before .before .before .before .loop .inv .1, c .before .before .before .before .before .loop-test .taken)
@@ -94,7 +94,7 @@ array-write-f-2 c = omega (arith, c .before .before .before .before .before .bef
 value-at-requires-3 : tie.Need-value-at-requires-3 Inv-loop μ-loop
 value-at-requires-3 c κs =
     let s = c .before .before .before .before .before .before .before in
-    read-small (s .args .t .now) (s .args .class) (c .before .before .before .before .before .before .loop .q) (s .args .highway .0) (s .pre .0 .0) (s .pre .1 .2) (omega (arith, c .before .before .before .before .before .loop-test .taken))
+    read-small (s .args .t .now) (s .args .class) (c .before .before .before .before .before .before .loop .q) _ (s .pre .0 .0) (search (s .pre .1)) (omega (arith, c .before .before .before .before .before .loop-test .taken))
 
 mul-f-5 : tie.Need-mul-f-5 Inv-loop μ-loop
 mul-f-5 c = omega (arith, c .before .before .before .before .before .before .before .loop .inv .0, c .before .before .before .before .before .before .before .loop .inv .1, c .before .before .before .before .before .before .loop-test .taken)

@@ -12,7 +12,9 @@ returns c = two-stroke _ _ _ _ (c .if1 .taken)
 
 curve-factors-requires : tie.Need-curve-factors-requires
 unfolding coefficients
-curve-factors-requires c κs = ((refl, c .before .if1 .left), c .before .before .pre)
+curve-factors-requires c κs =
+    let d = c .before .before .pre in
+    ((refl, c .before .if1 .left), (search d, search d, search d))
 
 returns-2 : tie.Need-returns-2
 returns-2 c = search needs

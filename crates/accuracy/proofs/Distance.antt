@@ -1,0 +1,115 @@
+-- The reference in closed form, and the distance of each printed total from it, after any list of adds.
+-- Assumes nothing.
+use mathlib.Core.Path.{_≡_, refl, ap, _∙_}
+use mathlib.Core.Bool.{Bool, true, false, cond}
+use mathlib.Core.List.{List, [], _∷_}
+use Prim.Native.Nat.{ℕ, _+_, _*_, _≤_, _<_}
+use native.Mathlib.Omega.{arith}
+use lib.Dec.{eqb, lit<}
+use lib.ListN.{length}
+use Rattle.units.specs.Rounding.{halfUp}
+use Rattle.units.specs.Fractions.{Fraction, over, plus, WithinDistance}
+use Rattle.units.proofs.Rounds.{half-up-high, half-up-low}
+use Rattle.units.proofs.Fractions.{plus-same}
+use Rattle.factors.specs.Factors.{fuelOf}
+use Rattle.inventory.specs.declared.Head.{Head}
+use Rattle.inventory.specs.declared.Record.{Record}
+use Rattle.inventory.specs.Records.{vehicleKm}
+use Rattle.inventory.specs.Limits.{RecordLimits}
+use Rattle.inventory.specs.Order.{sumAt}
+use Rattle.inventory.specs.Adding.{kmOf}
+use Rattle.inventory.specs.Printed.{place, exactTotal, printedTotal}
+use Rattle.accuracy.specs.Reference.{exactDenominator, exactOf, Reference, hasRoom, accepts, empty, withRecord, fed, referenceFrom, referenceOf, acceptedFrom, accepted}
+use Rattle.accuracy.specs.Claim.{allowance}
+use Rattle.accuracy.proofs.Sums.{sumOf, Apart, Each, sum-apart}
+use Rattle.accuracy.proofs.OneRecord.{xOf, brings, exactIn, record-near}
+use Rattle.accuracy.proofs.Closed.{slotSum, kmSum, closed, sum-closed}
+
+-- ---- the reference in closed form
+
+-- t′ is t with the records of l in it
+record Grown (head : Head) (l : List Record) (t t′ : Reference) : Type 0 where
+  count : t′ .count ≡ t .count + length l
+  km : (fuel : ℕ) → t′ .km fuel ≡ t .km fuel + kmSum l fuel
+  exact : (fuel quantity n : ℕ) → t .exact fuel quantity ≡ over n exactDenominator
+      → t′ .exact fuel quantity ≡ over (n + sumOf (exactIn head fuel quantity) l) exactDenominator
+
+-- one record: b says whether the fuel is the record's
+km-with : (b : Bool) (n k : ℕ) → cond b (n + k) n ≡ n + cond b k 0
+km-with true n k = refl
+km-with false n k = omega arith
+
+exact-with : (b : Bool) (t : Fraction) (n m : ℕ) → t ≡ over n exactDenominator
+    → cond b (plus t (over m exactDenominator)) t ≡ over (n + cond b m 0) exactDenominator
+exact-with true t n m e = rw e (plus-same n m exactDenominator)
+exact-with false t n m e = e ∙ ap (λ k. over k exactDenominator) (omega arith)
+
+grown : (head : Head) (recs : List Record) (t : Reference) → Grown head (acceptedFrom (t .count) recs) t (referenceFrom head t recs)
+unfolding referenceFrom acceptedFrom fed withRecord sumOf kmSum exactIn exactOf kmOf
+grown head [] t =
+    record { count = omega arith; km = λ fuel. omega arith; exact = λ fuel quantity n e. e ∙ ap (λ k. over k exactDenominator) (omega arith) }
+grown head (rec ∷ recs) t = go (accepts (hasRoom (t .count)) rec) (grown head recs (withRecord head t rec)) (grown head recs t)
+  where
+    go : (b : Bool) → Grown head (acceptedFrom (t .count + 1) recs) (withRecord head t rec) (referenceFrom head (withRecord head t rec) recs)
+        → Grown head (acceptedFrom (t .count) recs) t (referenceFrom head t recs)
+        → Grown head (cond b (rec ∷ acceptedFrom (t .count + 1) recs) (acceptedFrom (t .count) recs)) t (referenceFrom head (cond b (withRecord head t rec) t) recs)
+    go true x y =
+        record {
+          count = omega (arith, x .count);
+          km = λ fuel. omega (arith, x .km fuel, km-with (eqb fuel (fuelOf (rec .class))) (t .km fuel) (vehicleKm rec));
+          exact =
+              λ fuel quantity n e.
+              x .exact fuel quantity (n + exactIn head fuel quantity rec)
+              (exact-with (eqb fuel (fuelOf (rec .class))) (t .exact fuel quantity) n (exactOf head rec quantity .numerator) e)
+              ∙ ap (λ k. over k exactDenominator) (omega arith);
+        }
+    go false x y = y
+
+module _ (head : Head) (recs : List Record) where
+  pub reference-count : referenceOf head recs .count ≡ length (accepted recs)
+  unfolding referenceOf empty accepted
+  reference-count = omega (arith, grown head recs empty .count)
+
+  pub reference-km : (fuel : ℕ) → referenceOf head recs .km fuel ≡ kmSum (accepted recs) fuel
+  unfolding referenceOf empty accepted
+  reference-km fuel = omega (arith, grown head recs empty .km fuel)
+
+  pub reference-exact : (fuel quantity : ℕ) → referenceOf head recs .exact fuel quantity ≡ over (sumOf (exactIn head fuel quantity) (accepted recs)) exactDenominator
+  unfolding referenceOf empty accepted
+  reference-exact fuel quantity =
+      grown head recs empty .exact fuel quantity 0 refl ∙ ap (λ k. over k exactDenominator) (omega arith)
+
+-- ---- the distance
+
+-- s billionths, rounded, from e over the denominator: half a gram is half of it, and 1.5 g per 10^7 km are 1.8 × 10^13 a kilometre
+near-by : (s e k : ℕ) → Apart (s * 120000000000) e (18000000000000 * k) → WithinDistance (halfUp s 1000000000) (over e exactDenominator) (allowance k)
+unfolding allowance plus
+near-by s e k h =
+    let a : 2 * (halfUp s 1000000000 * 1000000000) ≤ 2 * s + 1000000000 = half-up-high s 1000000000 in
+    let b : 2 * s ≤ 2 * (halfUp s 1000000000 * 1000000000) + 1000000000 = half-up-low s 1000000000 (lit< tt) in
+    omega (arith, h)
+
+-- what the records bring to the four kinds
+four-sums : (xs : List ℕ) (fuel quantity : ℕ) (l : List Record)
+    → slotSum xs l (place fuel quantity 0) + slotSum xs l (place fuel quantity 1) + slotSum xs l (place fuel quantity 2) + slotSum xs l (place fuel quantity 3)
+    ≡ sumOf (brings xs fuel quantity) l
+unfolding slotSum sumOf brings
+four-sums xs fuel quantity [] = refl
+four-sums xs fuel quantity (rec ∷ l) = omega (arith, four-sums xs fuel quantity l)
+
+pub total-closed : (trip : ℕ) (xs : List ℕ) (l : List Record) (fuel quantity : ℕ) → fuel < 3 → quantity < 5
+    → exactTotal (closed trip xs l) fuel quantity ≡ sumOf (brings xs fuel quantity) l
+unfolding exactTotal
+total-closed trip xs l fuel quantity f q =
+    let at : (kind : ℕ) → kind < 4 → sumAt (closed trip xs l) (place fuel quantity kind) ≡ slotSum xs l (place fuel quantity kind) =
+    λ kind k. sum-closed trip xs l (place fuel quantity kind) (omega arith) in
+    rw (at 0 (lit< tt), at 1 (lit< tt), at 2 (lit< tt), at 3 (lit< tt)) (four-sums xs fuel quantity l)
+
+pub closed-near : (head : Head) (l : List Record) → Each RecordLimits l → (fuel quantity : ℕ) → fuel < 3 → quantity < 5
+    → WithinDistance (printedTotal (closed (head .trip) (xOf head) l) fuel quantity) (over (sumOf (exactIn head fuel quantity) l) exactDenominator) (allowance (kmSum l fuel))
+unfolding printedTotal kmSum
+closed-near head l good fuel quantity f q =
+    rw (total-closed (head .trip) (xOf head) l fuel quantity f q)
+    (near-by _ _ _
+    (sum-apart RecordLimits 120000000000 18000000000000 (brings (xOf head) fuel quantity) (exactIn head fuel quantity) (λ rec. kmOf rec fuel)
+    (record-near head fuel quantity q) l good))

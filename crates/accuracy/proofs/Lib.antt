@@ -1,0 +1,7 @@
+pub mod Sums
+pub mod OneRecord
+pub mod Closed
+pub mod Distance
+pub mod Order
+pub mod Whole
+pub mod Worked

@@ -1,0 +1,75 @@
+-- Demand 3, whole, as one statement over the functions on the right of ≡ in the calls' contracts.
+-- Assumes nothing.
+use Prim.Native.Nat.{ℕ, _+_, _*_, _-_, _<_}
+use mathlib.Core.Path.{_≡_}
+use mathlib.Core.Bool.{true, not, _||_}
+use mathlib.Core.List.{List, [], _∷_}
+use lib.Dec.{eqb}
+use Rattle.units.specs.Grounds.{numberFits, firstFit}
+use Rattle.units.specs.Fractions.{Fraction, over, plus, WithinDistance}
+use Rattle.inventory.specs.declared.Head.{Head}
+use Rattle.inventory.specs.declared.Record.{Record}
+use Rattle.inventory.specs.declared.Run.{Run}
+use Rattle.inventory.specs.Records.{headGrounds}
+use Rattle.inventory.specs.Order.{inOrder, kmIn}
+use Rattle.inventory.specs.Opening.{openNumber, openRun}
+use Rattle.inventory.specs.Adding.{addNumber, addRun}
+use Rattle.inventory.specs.Printed.{totalGrounds, totalOf, printedTotal}
+use Rattle.fuel.specs.Balance.{balanceGrounds, balanceOf, printedFuel, BalanceNear}
+use Rattle.listing.specs.Report.{reportGrounds, reportOf, reportBuffer}
+use Rattle.accuracy.specs.Reference.{Reference, referenceOf, hasRoom, accepts, accepted, occurs}
+
+-- the run after a list of adds, each on the run that the one before it gave back, refused or not
+unfoldable pub runAfter : Run → List Record → Run
+runAfter run [] = run
+runAfter run (rec ∷ recs) = runAfter (addRun run rec) recs
+
+-- half a gram plus 1.5 g per ten million vehicle kilometres
+unfoldable pub allowance : ℕ → Fraction
+allowance km = plus (over 1 2) (over (15 * km) (10 * 10000000))
+
+-- what holds of the run after a list of records, given the reference after it
+pub record ListClaim (run : Run) (reference : Reference) : Type 0 where
+  -- the next add takes its record exactly where the reference accepts it
+  pub takes : (rec : Record) → eqb (addNumber run rec) 0 ≡ accepts (hasRoom (reference .count)) rec
+  -- 16 fits no such run
+  pub ordered : inOrder run ≡ true
+  -- a total is refused exactly where 11 fits, a report exactly where 14, a balance exactly where 11, 12 or 13, with the first that fits
+  pub totals : (fuel quantity : ℕ) → eqb (totalOf run fuel quantity .number) 0 ≡ not (numberFits 11 (totalGrounds run fuel quantity))
+  pub first-total : (fuel quantity : ℕ) → totalOf run fuel quantity .number ≡ firstFit (totalGrounds run fuel quantity)
+  pub reports : (buffer : List ℕ) → eqb (reportOf run buffer .number) 0 ≡ not (numberFits 14 (reportGrounds run buffer))
+  pub first-report : (buffer : List ℕ) → reportOf run buffer .number ≡ firstFit (reportGrounds run buffer)
+  pub balances : (fuel quantity s : ℕ) → eqb (balanceOf run fuel quantity s .number) 0
+      ≡ not (numberFits 11 (balanceGrounds run fuel quantity s) || numberFits 12 (balanceGrounds run fuel quantity s) || numberFits 13 (balanceGrounds run fuel quantity s))
+  pub first-balance : (fuel quantity s : ℕ) → balanceOf run fuel quantity s .number ≡ firstFit (balanceGrounds run fuel quantity s)
+  -- count and kilometres are the reference's
+  pub count : run .count ≡ reference .count
+  pub km : (fuel : ℕ) → fuel < 3 → kmIn run fuel ≡ reference .km fuel
+  -- each total that is asked for is within the allowed distance of the exact sum
+  pub near : (fuel quantity : ℕ) → fuel < 3 → quantity < 5
+      → WithinDistance (totalOf run (fuel + 1) (quantity + 1) .grams) (reference .exact fuel quantity) (allowance (reference .km fuel))
+
+-- each record occurs equally often among the accepted ones of both lists
+abbrev pub SameAccepted : List Record → List Record → Type 0
+SameAccepted recs others = (rec : Record) → occurs rec (accepted recs) ≡ occurs rec (accepted others)
+
+-- the same answer and, in buffers that were alike before, the same bytes
+pub record SameReport (a b : Run) : Type 0 where
+  pub answer : (buffer : List ℕ) → reportOf a buffer ≡ reportOf b buffer
+  pub bytes : (buffer : List ℕ) → reportBuffer a buffer ≡ reportBuffer b buffer
+
+-- the part about every list of adds under one head
+pub record EveryList (head : Head) : Type 0 where
+  pub list : (recs : List Record) → ListClaim (runAfter (openRun head) recs) (referenceOf head recs)
+  pub order : (recs others : List Record) → SameAccepted recs others
+      → SameReport (runAfter (openRun head) recs) (runAfter (openRun head) others)
+
+pub record AccuracyClaim : Type 0 where
+  -- opening refuses exactly where 1 or 2 fits, with the first that fits
+  pub opening : (head : Head) → eqb (openNumber head) 0 ≡ not (numberFits 1 (headGrounds head) || numberFits 2 (headGrounds head))
+  pub first-opening : (head : Head) → openNumber head ≡ firstFit (headGrounds head)
+  -- every list of adds under every head that opening took
+  pub lists : (head : Head) → openNumber head ≡ 0 → EveryList head
+  -- on any run, a balanced total that is not refused
+  pub balance : (run : Run) (fuel quantity s : ℕ)
+      → BalanceNear (balanceOf run fuel quantity s) (printedTotal run (fuel - 1) (quantity - 1)) s (printedFuel run (fuel - 1))

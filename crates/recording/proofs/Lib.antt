@@ -1,0 +1,5 @@
+pub mod Products
+pub mod Slots
+pub mod Made
+pub mod Verdicts
+pub mod Temperatures

@@ -1,0 +1,291 @@
+// Opening a run and adding records to it.
+ghost use mathlib.Core.Path.{_≡_};
+ghost use mathlib.Core.Bool.{cond};
+ghost use Prim.Native.Nat.{_+_, _*_, _≤_, _<_};
+ghost use Rattle.units.specs.Lists.{allBelow};
+ghost use Rattle.units.specs.Grounds.{firstFit};
+ghost use Rattle.units.specs.Refusals.{verdictNumber};
+ghost use Rattle.factors.specs.Factors.{hasCold};
+ghost use Rattle.coldstart.specs.ColdStart.{coldFactor};
+ghost use Rattle.inventory.specs.Records.{monthOk, recordGrounds, sharesWrong, speedsWrong};
+ghost use Rattle.inventory.specs.Limits.{RecordLimits, RunLimits};
+ghost use Rattle.inventory.specs.Opening.{zeroRun, openNumber, openRun};
+ghost use Rattle.inventory.specs.Adding.{billionths, runWith, addNumber, addRun};
+use inventory::Added;
+use inventory::Amount;
+use inventory::Head;
+use inventory::Opened;
+use inventory::Record;
+use inventory::Run;
+use units::Grams;
+use units::Refusal;
+use units::Speed;
+use units::VehicleKm;
+use units::Verdict;
+
+// Whether every temperature of a head is in range.
+fn temperatures_ok(head: Head) -> bool
+    ensures { λ b. ⌜ b ≡ allBelow (monthOk head) 12 ⌝ }
+{
+    let mut k: usize = 0;
+    while k < 12 {
+        if !coldstart::temperature_ok(head.temps[k]) {
+            return false;
+        }
+        k += 1;
+    }
+    true
+}
+
+// The run of zeros.
+fn zeros() -> Run
+    ensures { λ r. ⌜ r ≡ zeroRun ⌝ }
+{
+    Run {
+        trip: 0,
+        x: [0; 15],
+        count: 0,
+        km: [VehicleKm(0); 3],
+        grams: [Grams(0); 60],
+        rests: [0; 60],
+    }
+}
+
+// Opens a run: 1, then 2; a refused head gives the run of zeros.
+pub fn open_run(head: Head) -> Opened
+    ensures number { λ r. ⌜ verdictNumber (r .verdict) ≡ openNumber head ⌝ }
+    ensures run { λ r. ⌜ r .run ≡ openRun head ⌝ }
+{
+    let mut run = zeros();
+    if units::is_outside(10, 200, head.trip) {
+        return Opened {
+            verdict: Verdict::Refused(Refusal::TripLength),
+            run,
+        };
+    }
+    if !temperatures_ok(head) {
+        return Opened {
+            verdict: Verdict::Refused(Refusal::Temperature),
+            run,
+        };
+    }
+    let temps = head.temps;
+    run.trip = head.trip;
+    let x = coldstart::cold_values(head.trip, &temps);
+    run.x = x;
+    Opened {
+        verdict: Verdict::Taken,
+        run,
+    }
+}
+
+// Whether a share is over 100, or the sum is not 100.
+fn shares_wrong(rec: Record) -> bool
+    ensures { λ b. ⌜ b ≡ sharesWrong rec ⌝ }
+{
+    if 100 < rec.shares.urban {
+        return true;
+    }
+    if 100 < rec.shares.rural {
+        return true;
+    }
+    if 100 < rec.shares.highway {
+        return true;
+    }
+    if rec.shares.urban + rec.shares.rural + rec.shares.highway == 100 {
+        return false;
+    }
+    true
+}
+
+// Whether a speed is out of range, also where its share is 0.
+fn speeds_wrong(rec: Record) -> bool
+    ensures { λ b. ⌜ b ≡ speedsWrong rec ⌝ }
+{
+    if units::is_outside(10, 130, rec.speeds.urban.0) {
+        return true;
+    }
+    if units::is_outside(10, 130, rec.speeds.rural.0) {
+        return true;
+    }
+    units::is_outside(10, 130, rec.speeds.highway.0)
+}
+
+// Whether a record is refused by itself: 3 to 8.
+fn record_verdict(rec: Record) -> Verdict
+    ensures { λ v. ⌜ verdictNumber v ≡ firstFit (recordGrounds rec) ⌝ }
+{
+    if units::is_outside(1, 7, rec.class) {
+        return Verdict::Refused(Refusal::Class);
+    }
+    if units::is_outside(1, 1000000, rec.vehicles) {
+        return Verdict::Refused(Refusal::Vehicles);
+    }
+    if units::is_outside(1, 999999, rec.km) {
+        return Verdict::Refused(Refusal::Kilometres);
+    }
+    if 1000000000 < rec.vehicles * rec.km {
+        return Verdict::Refused(Refusal::Distance);
+    }
+    if shares_wrong(rec) {
+        return Verdict::Refused(Refusal::Shares);
+    }
+    if speeds_wrong(rec) {
+        return Verdict::Refused(Refusal::RoadSpeed);
+    }
+    Verdict::Taken
+}
+
+// Whether an add is refused: 16, then 3 to 8, then 9.
+fn add_verdict(run: Run, rec: Record) -> Verdict
+    ensures { λ v. ⌜ verdictNumber v ≡ addNumber run rec ⌝ }
+{
+    if !inventory::in_order(run) {
+        return Verdict::Refused(Refusal::RunOrder);
+    }
+    let v = record_verdict(rec);
+    match v {
+        Verdict::Refused(x) => {
+            return Verdict::Refused(x);
+        }
+        Verdict::Taken => {}
+    }
+    if 5000 <= run.count {
+        return Verdict::Refused(Refusal::FullRun);
+    }
+    Verdict::Taken
+}
+
+// A sum of g grams and r billionths with the hot grams of one road.
+fn with_hot(g: Grams, r: u64, k: VehicleKm, share: u64, e: u64) -> Amount
+    requires { ⌜ (g .0 ≤ 5000000000000000) × (r < 1000000000) ⌝ }
+    requires { ⌜ (k .0 ≤ 1000000000) × (share ≤ 100) × (e ≤ 2000000000) ⌝ }
+    ensures { λ s. ⌜ s ≡ billionths (g .0 * 1000000000 + r + k .0 * share * e) ⌝ }
+{
+    let a = k.0 * share;
+    let low = a % 1000000000 * e;
+    let s = r + low % 1000000000;
+    let m = g.0 + (a / 1000000000 * e + low / 1000000000);
+    if s < 1000000000 {
+        return Amount {
+            grams: Grams(m),
+            rest: s,
+        };
+    }
+    Amount {
+        grams: Grams(m + 1),
+        rest: s - 1000000000,
+    }
+}
+
+// A sum of g grams and r billionths with the cold grams of one cold factor.
+fn with_cold(g: Grams, r: u64, k: VehicleKm, f: u64) -> Amount
+    requires { ⌜ (g .0 ≤ 5000000000000000) × (r < 1000000000) ⌝ }
+    requires { ⌜ (k .0 ≤ 1000000000) × (f ≤ 9800000000) ⌝ }
+    ensures { λ s. ⌜ s ≡ billionths (g .0 * 1000000000 + r + k .0 * f * 100) ⌝ }
+{
+    let a = k.0 * f;
+    let s = r + a % 10000000 * 100;
+    let m = g.0 + a / 10000000;
+    if s < 1000000000 {
+        return Amount {
+            grams: Grams(m),
+            rest: s,
+        };
+    }
+    Amount {
+        grams: Grams(m + 1),
+        rest: s - 1000000000,
+    }
+}
+
+// The cold factor of E and X, 0 for a class without a cold part.
+fn cold_rate(class: u64, e: u64, x: u64) -> u64
+    requires { ⌜ (e ≤ 2000000000) × (x ≤ 4900000000) ⌝ }
+    ensures { λ r. ⌜ r ≡ cond (hasCold class) (coldFactor e x) 0 ⌝ }
+{
+    if factors::has_cold(class) {
+        return coldstart::cold_factor(e, x);
+    }
+    0
+}
+
+// The run with a record that is taken: the 20 sums and the kilometres of its fuel, and the count.
+fn run_with(run: Run, rec: Record) -> Run
+    requires { ⌜ RecordLimits rec ⌝ }
+    requires { ⌜ RunLimits run × (run .count < 5000) ⌝ }
+    ensures { λ r. ⌜ r ≡ runWith run rec ⌝ }
+{
+    let mut r = run;
+    let shares = rec.shares;
+    let fuel = factors::fuel_of(rec.class);
+    let k = VehicleKm(rec.vehicles * rec.km);
+    let f = factors::factors_of(
+        rec.class,
+        rec.speeds.urban,
+        rec.speeds.rural,
+        rec.speeds.highway,
+    );
+    let mut q: usize = 0;
+    while q < 5 {
+        let b = fuel * 20 + q * 4;
+        let e = f[q * 3];
+        let c = cold_rate(rec.class, e, run.x[fuel * 5 + q]);
+        let s0 = with_hot(run.grams[b], run.rests[b], k, shares.urban, e);
+        let s1 = with_hot(
+            run.grams[b + 1],
+            run.rests[b + 1],
+            k,
+            shares.rural,
+            f[q * 3 + 1],
+        );
+        let s2 = with_hot(
+            run.grams[b + 2],
+            run.rests[b + 2],
+            k,
+            shares.highway,
+            f[q * 3 + 2],
+        );
+        let s3 = with_cold(run.grams[b + 3], run.rests[b + 3], k, c);
+        let m = s0.grams;
+        r.grams[b] = m;
+        r.rests[b] = s0.rest;
+        let m = s1.grams;
+        r.grams[b + 1] = m;
+        r.rests[b + 1] = s1.rest;
+        let m = s2.grams;
+        r.grams[b + 2] = m;
+        r.rests[b + 2] = s2.rest;
+        let m = s3.grams;
+        r.grams[b + 3] = m;
+        r.rests[b + 3] = s3.rest;
+        q += 1;
+    }
+    let m = run.km[fuel];
+    let m = VehicleKm(m.0 + k.0);
+    r.km[fuel] = m;
+    r.count += 1;
+    r
+}
+
+// Adds a record to a run; a refused record gives back the run as it came.
+pub fn add(run: Run, rec: Record) -> Added
+    ensures number { λ r. ⌜ verdictNumber (r .verdict) ≡ addNumber run rec ⌝ }
+    ensures run { λ r. ⌜ r .run ≡ addRun run rec ⌝ }
+{
+    let v = add_verdict(run, rec);
+    match v {
+        Verdict::Refused(x) => {
+            return Added {
+                verdict: Verdict::Refused(x),
+                run,
+            };
+        }
+        Verdict::Taken => {}
+    }
+    let r = run_with(run, rec);
+    Added {
+        verdict: Verdict::Taken,
+        run: r,
+    }
+}

@@ -1,0 +1,20 @@
+-- A number as a field: its digits right-justified in so many bytes, with spaces before them.
+-- Assumes nothing.
+use Prim.Native.Nat.{ℕ, zero, suc, _+_, _/_, _%_}
+use mathlib.Core.Bool.{cond}
+use mathlib.Core.List.{List, [], _∷_, _++_}
+use lib.Dec.{eqb}
+
+-- the last digit of a number that may have run out: a space for 0
+abbrev pub glyphOf : ℕ → ℕ
+glyphOf n = cond (eqb n 0) 32 (48 + n % 10)
+
+-- w bytes: the digits of n, with spaces before them; spaces alone for 0
+abbrev pub pad : ℕ → ℕ → List ℕ
+pad zero n = []
+pad (suc w) n = pad w (n / 10) ++ (glyphOf n ∷ [])
+
+-- w bytes: the number n, right-justified with spaces
+unfoldable pub render : ℕ → ℕ → List ℕ
+render zero n = []
+render (suc w) n = pad w (n / 10) ++ ((48 + n % 10) ∷ [])
