@@ -5,3 +5,4 @@ pub mod Distance
 pub mod Order
 pub mod Whole
 pub mod Worked
+pub mod Numbers

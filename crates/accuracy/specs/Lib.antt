@@ -1,2 +1,3 @@
 pub mod Reference
 pub mod Claim
+pub mod Numbers

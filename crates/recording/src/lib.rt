@@ -11,6 +11,7 @@ ghost use Rattle.inventory.specs.Records.{monthOk, recordGrounds, sharesWrong, 
 ghost use Rattle.inventory.specs.Limits.{RecordLimits, RunLimits};
 ghost use Rattle.inventory.specs.Opening.{zeroRun, openNumber, openRun};
 ghost use Rattle.inventory.specs.Adding.{billionths, runWith, addNumber, addRun};
+ghost use Rattle.accuracy.specs.Claim.{EveryList};
 use inventory::Added;
 use inventory::Amount;
 use inventory::Head;
@@ -51,10 +52,11 @@ fn zeros() -> Run
     }
 }
 
-// Opens a run: 1, then 2; a refused head gives the run of zeros.
+// Opens a run: 1, then 2; a refused head gives the run of zeros. The last clause is demand 3 for every list of adds.
 pub fn open_run(head: Head) -> Opened
     ensures number { λ r. ⌜ verdictNumber (r .verdict) ≡ openNumber head ⌝ }
     ensures run { λ r. ⌜ r .run ≡ openRun head ⌝ }
+    ensures lists { λ r. ⌜ (verdictNumber (r .verdict) ≡ 0 → EveryList head) ⌝ }
 {
     let mut run = zeros();
     if units::is_outside(10, 200, head.trip) {

@@ -1,0 +1,69 @@
+-- The figures of document 01, "Numbers to hold it against", as one table.
+-- Assumes nothing.
+use Prim.Native.Nat.{ℕ}
+use mathlib.Core.Path.{_≡_}
+use mathlib.Core.List.{List, [], _∷_}
+use lib.IntN.{ℤ, pos, natAbs}
+use lib.ListN.{replicate}
+use Rattle.factors.specs.Factors.{emissionFactor}
+use Rattle.coldstart.specs.ColdStart.{coldShare, coldX, coldFactor}
+use Rattle.inventory.specs.declared.Head.{Head}
+use Rattle.inventory.specs.declared.Record.{Record}
+use Rattle.inventory.specs.declared.Run.{Run}
+use Rattle.inventory.specs.Opening.{openRun}
+use Rattle.fuel.specs.Balance.{balanceOf}
+use Rattle.accuracy.specs.Claim.{runAfter}
+
+-- head `  120` and twelve `  100`
+abbrev pub exampleHead : Head
+exampleHead = record { trip = 120; temps = replicate 12 (pos 100) }
+
+-- record ` 2   1000  10000  40  40  20  20  60 100`
+abbrev pub exampleRecord : Record
+exampleRecord =
+    record {
+      class = 2;
+      vehicles = 1000;
+      km = 10000;
+      shares = record { urban = 40; rural = 40; highway = 20 };
+      speeds = record { urban = record { 0 = 20 }; rural = record { 0 = 60 }; highway = record { 0 = 100 } };
+    }
+
+unfoldable pub exampleRun : Run
+exampleRun = runAfter (openRun exampleHead) (exampleRecord ∷ [])
+
+-- a figure of the table: the value that the definitions give, and the one that document 01 prints
+pub record Figure : Type 0 where
+  pub given : ℕ
+  pub printed : ℕ
+
+abbrev pub figure : ℕ → ℕ → Figure
+figure g p = record { given = g; printed = p }
+
+unfoldable pub figures : List Figure
+figures =
+    -- B at L 120, T 100
+    figure (natAbs (coldShare 120 (pos 100))) 29580000
+    -- X of gasoline there: CO, NOX, VOC, FC
+    ∷ figure (coldX 120 (replicate 12 (pos 100)) 0) 532440000
+    ∷ figure (coldX 120 (replicate 12 (pos 100)) 1) 23664000
+    ∷ figure (coldX 120 (replicate 12 (pos 100)) 2) 354960000
+    ∷ figure (coldX 120 (replicate 12 (pos 100)) 4) 112404000
+    -- class 2 CO at 20, 60, 100
+    ∷ figure (emissionFactor 2 0 0 20) 15095000
+    ∷ figure (emissionFactor 2 0 1 60) 15295000
+    ∷ figure (emissionFactor 2 0 2 100) 34695000
+    -- the cold CO factor
+    ∷ figure (coldFactor (emissionFactor 2 0 0 20) (coldX 120 (replicate 12 (pos 100)) 0)) 8037182
+    -- S 1000: k, and the balanced CO
+    ∷ figure (balanceOf exampleRun 1 1 1000 .k) 1039246
+    ∷ figure (balanceOf exampleRun 1 1 1000 .grams) 28197012
+    ∷ []
+
+abbrev pub AllPrinted : List Figure → Type 0
+AllPrinted [] = Unit
+AllPrinted (f ∷ fs) = (f .given ≡ f .printed) × AllPrinted fs
+
+-- every figure of the table is the printed one
+abbrev pub NumbersClaim : Type 0
+NumbersClaim = AllPrinted figures
