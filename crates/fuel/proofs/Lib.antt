@@ -1,3 +1,4 @@
 pub mod Distance
 pub mod Division
 pub mod Answers
+pub mod Contents

@@ -1,8 +1,12 @@
-// The balance of a run's totals against sold fuel.
+// The balance of a run's totals against sold fuel, and CO2, SO2 and lead from fuel.
 ghost use mathlib.Core.Path.{_≡_};
 ghost use Prim.Native.Nat.{_-_, _≤_, _<_};
-ghost use Rattle.inventory.specs.Printed.{printedTotal};
+ghost use Rattle.units.specs.Grounds.{firstFit};
+ghost use Rattle.units.specs.Refusals.{verdictNumber};
+ghost use Rattle.inventory.specs.Printed.{printedTotal, printedAnswer};
 ghost use Rattle.fuel.specs.Balance.{balancedAnswer, balanceOf, ratioInRange, BalanceNear, printedFuel};
+ghost use Rattle.fuel.specs.FromFuel.{contentGrounds, co2Of, so2Of, leadOf};
+use inventory::Printed;
 use inventory::Run;
 use units::Grams;
 use units::Refusal;
@@ -73,4 +77,65 @@ pub fn balance(run: Run, fuel: u64, quantity: u64, sold: u64) -> Balanced
         k,
         grams: Grams(units::scaled(t.0, k, 1000000)),
     })
+}
+
+// Whether a question for grams from fuel is refused: 16, 11, then 15 where the content is over its limit.
+fn content_verdict(run: Run, fuel: u64, limit: u64, content: u64) -> Verdict
+    ensures { λ v. ⌜ verdictNumber v ≡ firstFit (contentGrounds run fuel limit content) ⌝ }
+{
+    if !inventory::in_order(run) {
+        return Verdict::Refused(Refusal::RunOrder);
+    }
+    if units::is_outside(1, 3, fuel) {
+        return Verdict::Refused(Refusal::FuelOrQuantity);
+    }
+    if limit < content {
+        return Verdict::Refused(Refusal::FuelContent);
+    }
+    Verdict::Taken
+}
+
+// CO2 of a fuel; hydrogen per carbon in thousandths.
+pub fn co2(run: Run, fuel: u64, hydrogen: u64) -> Printed
+    ensures { λ r. ⌜ printedAnswer r ≡ co2Of run fuel hydrogen ⌝ }
+{
+    let v = content_verdict(run, fuel, 4000, hydrogen);
+    match v {
+        Verdict::Refused(x) => {
+            return Printed::Refused(x);
+        }
+        Verdict::Taken => {}
+    }
+    let f = inventory::total_at(run, fuel as usize - 1, 4);
+    Printed::Given(Grams(units::scaled(f.0, 44011000, 12011000 + 1008 * hydrogen)))
+}
+
+// SO2 of a fuel; sulphur in ppm by mass.
+pub fn so2(run: Run, fuel: u64, sulphur: u64) -> Printed
+    ensures { λ r. ⌜ printedAnswer r ≡ so2Of run fuel sulphur ⌝ }
+{
+    let v = content_verdict(run, fuel, 10000, sulphur);
+    match v {
+        Verdict::Refused(x) => {
+            return Printed::Refused(x);
+        }
+        Verdict::Taken => {}
+    }
+    let f = inventory::total_at(run, fuel as usize - 1, 4);
+    Printed::Given(Grams(units::scaled(f.0, 2 * sulphur, 1000000)))
+}
+
+// Lead of a fuel; lead in ppm by mass.
+pub fn lead(run: Run, fuel: u64, content: u64) -> Printed
+    ensures { λ r. ⌜ printedAnswer r ≡ leadOf run fuel content ⌝ }
+{
+    let v = content_verdict(run, fuel, 1000, content);
+    match v {
+        Verdict::Refused(x) => {
+            return Printed::Refused(x);
+        }
+        Verdict::Taken => {}
+    }
+    let f = inventory::total_at(run, fuel as usize - 1, 4);
+    Printed::Given(Grams(units::scaled(f.0, 3 * content, 4000000)))
 }

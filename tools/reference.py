@@ -1,0 +1,267 @@
+"""Document 01 ("COPERT II inventory core") in exact whole numbers.
+
+Written from document 01 alone; nothing here comes from the Rattle code. Each call of the first
+delivery is one function, and a refusal is its number in the table of grounds, 0 for none. The
+tally at the end has the exact, never rounded sums that demand 3 measures against.
+"""
+from fractions import Fraction
+
+FUELS = (1, 2, 3)
+QUANTITIES = (1, 2, 3, 4, 5)
+NAMES = {1: "CO", 2: "NOX", 3: "VOC", 4: "PM", 5: "FC"}
+KINDS = ("urban", "rural", "highway", "cold")
+CO, NOX, VOC, PM, FC = QUANTITIES
+
+# The fuel of each class.
+FUEL = {1: 1, 2: 1, 3: 1, 4: 3, 5: 1, 6: 2, 7: 2}
+
+# a, b, c of each curve, by class and quantity, as document 01 prints them. FC of classes 6 and 7:
+# Table V.1.6-1 of source document 002, "0,02330V^2 - 2,5646V + 136,22" and
+# "0,01530V^2 - 2,1810V + 152,74", times 10,000,000.
+CURVES = {
+    (1, CO): (110400, -15132000, 577890000),
+    (1, NOX): (900, -79000, 19391000),
+    (1, VOC): (6770, -1170000, 54734000),
+    (1, FC): (187000, -26974000, 1567700000),
+    (2, CO): (6000, -475000, 22195000),
+    (2, NOX): (575, -54800, 4880000),
+    (2, VOC): (700, -67000, 2406000),
+    (2, FC): (187000, -26974000, 1567700000),
+    (4, CO): (11000, -1165000, 42098000),
+    (4, NOX): (400, -63000, 5278000),
+    (4, VOC): (1000, -166000, 7431000),
+    (4, FC): (72000, -9250000, 746250000),
+    (6, CO): (2000, -256000, 18281000),
+    (6, NOX): (1400, -159200, 14921000),
+    (6, VOC): (660, -113000, 6024000),
+    (6, PM): (125, -5770, 2880000),
+    (6, FC): (233000, -25646000, 1362200000),
+    (7, CO): (2000, -313000, 17838000),
+    (7, NOX): (1270, -167400, 9037000),
+    (7, VOC): (281, -65000, 4505000),
+    (7, PM): (400, -55000, 2687000),
+    (7, FC): (153000, -21810000, 1527400000),
+}
+
+# Class 3 is class 2 in these hundredths.
+CLASS_3 = {CO: 70, NOX: 44, VOC: 44, PM: 100, FC: 100}
+
+# Class 5 by road: urban, rural, highway, at any speed.
+CLASS_5 = {
+    CO: (207000000, 75000000, 87000000),
+    NOX: (3000000, 10000000, 7500000),
+    VOC: (154000000, 72000000, 59000000),
+    PM: (0, 0, 0),
+    FC: (1115000000, 660000000, 569000000),
+}
+
+# p and q of the ratio cold to hot, by fuel and quantity; no entry is "none".
+RATIOS = {
+    (1, CO): (37000, 90), (1, NOX): (11400, 6), (1, VOC): (28000, 60), (1, FC): (14700, 9),
+    (2, CO): (19000, 30), (2, NOX): (13000, 13), (2, VOC): (31000, 90), (2, PM): (31000, 100),
+    (2, FC): (13400, 8),
+    (3, CO): (36600, 90), (3, NOX): (9800, 6), (3, VOC): (22400, 60), (3, FC): (14700, 9),
+}
+
+
+class Run:
+    """L, X by (fuel, quantity), the count, kilometres by fuel, and grams and rests by (fuel, quantity, kind)."""
+
+    def __init__(self):
+        self.trip = 0
+        self.x = {(f, q): 0 for f in FUELS for q in QUANTITIES}
+        self.count = 0
+        self.km = {f: 0 for f in FUELS}
+        self.grams = {(f, q, k): 0 for f in FUELS for q in QUANTITIES for k in KINDS}
+        self.rests = dict(self.grams)
+
+    def copy(self):
+        """The same run in a place of its own."""
+        other = Run()
+        other.trip, other.x, other.count = self.trip, dict(self.x), self.count
+        other.km, other.grams, other.rests = dict(self.km), dict(self.grams), dict(self.rests)
+        return other
+
+    def sum(self, fuel, quantity, kind):
+        """A sum in billionths of a gram."""
+        return self.grams[fuel, quantity, kind] * 10**9 + self.rests[fuel, quantity, kind]
+
+
+def half_up(value):
+    """A Fraction (not negative) to whole numbers, half up."""
+    return (2 * value.numerator + value.denominator) // (2 * value.denominator)
+
+
+def hot_factor(cls, quantity, road, speed):
+    """E in units of 0.0000001 g/km; road is 0 urban, 1 rural, 2 highway."""
+    if cls == 5:
+        return CLASS_5[quantity][road]
+    if cls == 3:
+        e = Fraction(hot_factor(2, quantity, road, speed) * CLASS_3[quantity], 100)
+        assert e.denominator == 1
+        return e.numerator
+    a, b, c = CURVES.get((cls, quantity), (0, 0, 0))
+    return a * speed**2 + b * speed + c
+
+
+def cold_share(trip, t):
+    """B."""
+    return 64700000 - 250000 * trip - (97400 - 385 * trip) * t
+
+
+def cold_excess(fuel, quantity, t):
+    """Q."""
+    if (fuel, quantity) not in RATIOS:
+        return 0
+    p, q = RATIOS[fuel, quantity]
+    return max(0, p - q * t - 10000)
+
+
+def unrounded_x(trip, temps, fuel, quantity):
+    """X before its rounding."""
+    return Fraction(sum(cold_share(trip, t) * cold_excess(fuel, quantity, t) for t in temps), 12000)
+
+
+def cold_factor(e, x):
+    """The cold factor of E(urban speed) and X."""
+    return half_up(Fraction(e * x, 10**9))
+
+
+def in_order(run):
+    """Whether a run is in order."""
+    return (10 <= run.trip <= 200
+            and all(x <= 4900000000 for x in run.x.values())
+            and run.count <= 5000
+            and all(rest < 10**9 for rest in run.rests.values())
+            and all(run.sum(*place) <= 10**12 * 10**9 * run.count for place in run.grams)
+            and all(km <= 10**9 * run.count for km in run.km.values()))
+
+
+def first(grounds):
+    """The first number whose condition fits, else 0."""
+    return next((number for number, fits in grounds if fits), 0)
+
+
+def open_run(head):
+    """head = (L, twelve T). The number and the run (of zeros where refused)."""
+    trip, temps = head
+    number = first([(1, not 10 <= trip <= 200), (2, any(not -300 <= t <= 400 for t in temps))])
+    run = Run()
+    if number == 0:
+        run.trip = trip
+        run.x = {(f, q): half_up(unrounded_x(trip, temps, f, q)) for f in FUELS for q in QUANTITIES}
+    return number, run
+
+
+def record_number(record):
+    """3 to 8, of a record = (class, vehicles, km, shares, speeds)."""
+    cls, vehicles, km, shares, speeds = record
+    return first([(3, not 1 <= cls <= 7),
+                  (4, not 1 <= vehicles <= 1000000),
+                  (5, not 1 <= km <= 999999),
+                  (6, vehicles * km > 10**9),
+                  (7, any(s > 100 for s in shares) or sum(shares) != 100),
+                  (8, any(not 10 <= v <= 130 for v in speeds))])
+
+
+def add(run, record):
+    """The number and the run with the record, or as it came where refused."""
+    number = first([(16, not in_order(run)), (record_number(record), record_number(record) != 0),
+                    (9, run.count >= 5000)])
+    if number != 0:
+        return number, run
+    cls, vehicles, km, shares, speeds = record
+    fuel, k, new = FUEL[cls], vehicles * km, run.copy()
+    for q in QUANTITIES:
+        e = [hot_factor(cls, q, road, speeds[road]) for road in range(3)]
+        cold = 0 if cls == 5 else cold_factor(e[0], run.x[fuel, q])
+        parts = [k * shares[road] * e[road] for road in range(3)] + [k * cold * 100]
+        for kind, part in zip(KINDS, parts):
+            place = fuel, q, kind
+            new.grams[place], new.rests[place] = divmod(run.sum(*place) + part, 10**9)
+    new.km[fuel] += k
+    new.count += 1
+    return 0, new
+
+
+def question_number(run, fuel, quantity):
+    """16, then 11."""
+    return first([(16, not in_order(run)), (11, fuel not in FUELS or quantity not in QUANTITIES)])
+
+
+def kind_total(run, fuel, quantity, kind):
+    """The number and a printed kind."""
+    number = question_number(run, fuel, quantity)
+    return (number, 0) if number else (0, half_up(Fraction(run.sum(fuel, quantity, kind), 10**9)))
+
+
+def total(run, fuel, quantity):
+    """The number and a printed total."""
+    number = question_number(run, fuel, quantity)
+    if number:
+        return number, 0
+    return 0, half_up(Fraction(sum(run.sum(fuel, quantity, kind) for kind in KINDS), 10**9))
+
+
+def balance(run, fuel, quantity, sold):
+    """The number, k and the balanced total; sold is S in tonnes."""
+    number = question_number(run, fuel, quantity)
+    if number:
+        return number, 0, 0
+    f = total(run, fuel, FC)[1]
+    if f == 0:
+        return 12, 0, 0
+    k = half_up(Fraction(sold * 10**12, f))
+    if sold > 999999999 or not 500000 <= k <= 1500000:
+        return 13, 0, 0
+    return 0, k, half_up(Fraction(total(run, fuel, quantity)[1] * k, 10**6))
+
+
+def report_text(run):
+    """The report of a run in order."""
+    lines = []
+    for f in FUELS:
+        for q in QUANTITIES:
+            grams = [kind_total(run, f, q, kind)[1] for kind in KINDS] + [total(run, f, q)[1]]
+            if grams[-1] != 0:
+                lines.append("%2d%4s" % (f, NAMES[q]) + "".join("%18d" % g for g in grams) + "\n")
+    return "".join(lines).encode()
+
+
+def write_report(run, buffer):
+    """The number, the length in bytes, and the buffer afterwards."""
+    if not in_order(run):
+        return 16, 0, buffer
+    text = report_text(run)
+    if len(buffer) < len(text):
+        return 14, 0, buffer
+    return 0, len(text), text + buffer[len(text):]
+
+
+def tally(head, records):
+    """Demand 3's tally on paper: count, kilometres by fuel, exact sums by (fuel, quantity)."""
+    trip, temps = head
+    count, km, sums = 0, {f: 0 for f in FUELS}, {(f, q): Fraction(0) for f in FUELS for q in QUANTITIES}
+    x = {(f, q): unrounded_x(trip, temps, f, q) for f in FUELS for q in QUANTITIES}
+    gain = {}
+    for record in records:
+        if record_number(record) != 0 or count >= 5000:
+            continue
+        cls, vehicles, km_each, shares, speeds = record
+        fuel, k = FUEL[cls], vehicles * km_each
+        if record not in gain:
+            gain[record] = [exact_grams(record, q, x[fuel, q]) for q in QUANTITIES]
+        count += 1
+        km[fuel] += k
+        for q in QUANTITIES:
+            sums[fuel, q] += gain[record][q - 1]
+    return count, km, sums
+
+
+def exact_grams(record, quantity, x):
+    """One record's exact grams, x the unrounded X."""
+    cls, vehicles, km, shares, speeds = record
+    k = vehicles * km
+    e = [hot_factor(cls, quantity, road, speeds[road]) for road in range(3)]
+    hot = sum(Fraction(k * shares[road] * e[road], 10**9) for road in range(3))
+    return hot if cls == 5 else hot + k * e[0] * x / 10**16

@@ -1,0 +1,526 @@
+"""The cases of the test program `vectors`, and the answers that document 01 gives for them.
+
+    python3 tools/vectors.py            writes crates/vectors/stdin and crates/vectors/stdout
+    python3 tools/vectors.py --check    exits 1 if the two files are not what it would write
+
+A case is a line: a call and its numbers. The answers come from tools/reference.py, which shares
+nothing with the Rattle code. Each list of totals is also held against demand 3's tally.
+
+    open L T..                                      number
+    add TIMES CLASS VEHICLES KM SHARES.. SPEEDS..   number of the last add, record count
+    set FIELD INDEX VALUE                           nothing; a field of the run changed by hand
+    total FUEL QUANTITY                             number, grams
+    kind FUEL QUANTITY KIND                         number, grams
+    balance FUEL QUANTITY S                         number, k, grams
+    report BYTES                                    number, length; then the buffer, full of dots before
+    list                                            number and grams of the four kinds and the total of each fuel and quantity
+    fields                                          every field of the run
+"""
+import os
+import random
+import sys
+from fractions import Fraction
+
+import reference as ref
+import tight_list
+
+MAX = 2**64 - 1
+TRIP, X, COUNT, KM, GRAMS, REST = range(6)
+PLACES = [(f, q, k) for f in ref.FUELS for q in ref.QUANTITIES for k in ref.KINDS]
+MILD = [100] * 12
+EXAMPLE = (2, 1000, 10000, (40, 40, 20), (20, 60, 100))
+
+
+class Cases:
+    """The lines of standard input."""
+
+    def __init__(self):
+        self.lines = []
+
+    def say(self, *words):
+        self.lines.append(" ".join(str(w) for w in words))
+
+    def open(self, trip, temps):
+        self.say("open", trip, *temps)
+
+    def add(self, record, times=1):
+        cls, vehicles, km, shares, speeds = record
+        self.say("add", times, cls, vehicles, km, *shares, *speeds)
+
+    def set(self, field, index, value):
+        self.say("set", field, index, value)
+
+    def ask_all(self, record=EXAMPLE):
+        """Every call that is handed a run; the add comes last, since it may change it."""
+        self.say("total", 1, 1)
+        self.say("kind", 1, 5, 3)
+        self.say("balance", 1, 1, 1000)
+        self.say("report", 400)
+        self.add(record)
+
+
+def example(c):
+    """Document 01's fleet, its report, its balance, and the same fleet without cold CO."""
+    c.open(120, MILD)
+    c.say("fields")
+    c.say("report", 0)
+    c.say("balance", 1, 1, 1000)
+    c.add(EXAMPLE)
+    c.say("fields")
+    c.say("list")
+    for size in (388, 387, 389, 0, 1, 96, 97, 400, 1600):
+        c.say("report", size)
+    for sold in (1000, 481, 482, 1443, 1444, 0, 1, 999999999, 1000000000, MAX):
+        for q in ref.QUANTITIES:
+            c.say("balance", 1, q, sold)
+    c.say("balance", 2, 5, 1000)
+    c.open(120, [300] * 12)
+    c.add(EXAMPLE)
+    c.say("total", 1, 1)
+    c.say("list")
+
+
+def grounds(c):
+    """The example of each number of the table whose call exists."""
+    c.open(9, MILD)
+    c.say("fields")
+    c.open(120, [401] + MILD[1:])
+    c.say("fields")
+    c.open(120, MILD)
+    cls, vehicles, km, shares, speeds = EXAMPLE
+    c.add((0, vehicles, km, shares, speeds))
+    c.add((cls, 0, km, shares, speeds))
+    c.add((cls, vehicles, 0, shares, speeds))
+    c.add((cls, 100001, 10000, shares, speeds))
+    c.add((cls, vehicles, km, (40, 40, 19), speeds))
+    c.add((cls, vehicles, km, shares, (20, 60, 131)))
+    c.say("total", 4, 1)
+    c.say("balance", 1, 1, 1000)
+    c.say("fields")
+    c.add(EXAMPLE)
+    c.say("balance", 1, 1, 481)
+    c.say("report", 387)
+    c.set(TRIP, 0, 0)
+    c.ask_all()
+    c.say("fields")
+
+
+def head_limits(c):
+    """L and T from both sides, in the first, a middle and the last month; 1 before 2."""
+    for trip in (0, 9, 10, 11, 199, 200, 201, MAX):
+        c.open(trip, MILD)
+        c.say("fields")
+    for month in (0, 5, 11):
+        for t in (-2**63, -302, -301, -300, -299, -1, 0, 1, 399, 400, 401, 402, 2**63 - 1):
+            temps = list(MILD)
+            temps[month] = t
+            c.open(120, temps)
+            c.say("fields")
+    c.open(9, [401] * 12)
+    c.open(201, [-301] * 12)
+    c.open(MAX, [2**63 - 1] * 12)
+    c.open(10, [401] * 12)
+
+
+def record_limits(c):
+    """Each field of a record from both sides, into one run that takes some and refuses others."""
+    c.open(77, [-50, -20, 10, 60, 110, 150, 180, 175, 130, 80, 30, -10])
+    cls, vehicles, km, shares, speeds = EXAMPLE
+    for n in (0, 1, 2, 3, 4, 5, 6, 7, 8, 9, MAX):
+        c.add((n, vehicles, km, shares, speeds))
+    for n in (0, 1, 2, 999999, 1000000, 1000001, MAX):
+        c.add((cls, n, 1, shares, speeds))
+        c.add((cls, n, 1000, shares, speeds))
+    for n in (0, 1, 2, 999998, 999999, 1000000, MAX):
+        c.add((cls, 1, n, shares, speeds))
+        c.add((cls, 1000, n, shares, speeds))
+    # K at its limit, one above it, and far above.
+    for v, k in ((1000000, 1000), (2000, 500000), (1001, 999000), (1001, 999001), (999001, 1001), (1000000, 1001),
+                 (1001, 999999), (1000, 999999), (100001, 10000), (1000000, 999999)):
+        c.add((cls, v, k, shares, speeds))
+    for s in ((100, 0, 0), (0, 100, 0), (0, 0, 100), (50, 50, 0), (33, 33, 34), (1, 1, 98), (33, 33, 33), (34, 33, 34),
+              (40, 40, 19), (40, 40, 21), (101, 0, 0), (0, 101, 0), (0, 0, 101), (99, 0, 0), (0, 0, 0), (100, 100, 100),
+              (101, MAX, 0), (MAX, 101, 0), (0, MAX, 101), (2**63, 2**63, 100), (100, 2**63, 2**63), (MAX, 1, 100),
+              (MAX, MAX, 102), (MAX, MAX, MAX)):
+        c.add((cls, vehicles, km, s, speeds))
+    for n in (0, 9, 10, 11, 129, 130, 131, MAX):
+        for road in range(3):
+            v = [60, 60, 60]
+            v[road] = n
+            without = [50, 50, 50]
+            without[road] = 0
+            c.add((cls, vehicles, km, shares, v))
+            c.add((cls, vehicles, km, tuple(without), v))
+            c.add((5, vehicles, km, shares, v))
+            c.add((5, vehicles, km, tuple(without), v))
+    c.say("fields")
+    c.say("list")
+
+
+def several_wrong(c):
+    """Refusals in their order: every choice of wrong fields, on a run in order, a full one and one out of order."""
+    def records():
+        for wrong in range(64):
+            cls = 8 if wrong & 1 else 4
+            vehicles = 1000001 if wrong & 2 else (999001 if wrong & 8 else 1000)
+            km = 1000000 if wrong & 4 else 1001
+            shares = (40, 40, 19) if wrong & 16 else (40, 40, 20)
+            speeds = (20, 131, 100) if wrong & 32 else (20, 60, 100)
+            yield cls, vehicles, km, shares, speeds
+    for count, trip in ((1, 120), (5000, 120), (1, 9)):
+        c.open(120, MILD)
+        c.add(EXAMPLE)
+        c.set(COUNT, 0, count)
+        c.set(TRIP, 0, trip)
+        for record in records():
+            c.add(record)
+    c.say("fields")
+
+
+def questions(c):
+    """Fuel and quantity from both sides, on a run in order and on one that is not; the order of 16, 11, 12, 13."""
+    c.open(120, MILD)
+    c.add(EXAMPLE)
+    c.add((6, 1000, 10000, (40, 40, 20), (20, 60, 100)))
+    for trip in (120, 201):
+        c.set(TRIP, 0, trip)
+        for fuel in (0, 1, 2, 3, 4, MAX):
+            for quantity in (0, 1, 5, 6, MAX):
+                c.say("total", fuel, quantity)
+                c.say("kind", fuel, quantity, 0)
+                c.say("kind", fuel, quantity, 3)
+                for sold in (1000, 1000000000):
+                    c.say("balance", fuel, quantity, sold)
+    c.say("report", 0)
+    c.say("report", 1600)
+
+
+def classes(c):
+    """Every class, quantity and road at several speeds, then at every speed."""
+    roads = ((100, 0, 0), (0, 100, 0), (0, 0, 100), (31, 28, 41))
+    for cls in range(1, 8):
+        c.open(63, [-120, -75, -9, 38, 101, 143, 207, 234, 181, 92, 14, -66])
+        for shares in roads:
+            for v in ((10, 11, 12), (37, 64, 91), (128, 129, 130), (130, 10, 70)):
+                c.add((cls, 1234, 567, shares, v))
+            c.say("list")
+        c.say("fields")
+        c.say("report", 1600)
+    for cls in range(1, 8):
+        c.open(101, [-210, -75, -9, 38, 101, 143, 207, 394, 181, 92, 14, -66])
+        for v in range(10, 131):
+            c.add((cls, 1000 + v, 77777 + 13 * v, (v % 50, 99 - v % 50, 1), (v, 140 - v, 10 + (7 * v) % 121)))
+        c.say("fields")
+        c.say("list")
+
+
+def warm(c):
+    """Months where Q is cut to 0, alone and mixed with cold ones."""
+    steps = (-300, -35, -34, -33, -32, 205, 206, 207, 208, 209, 210, 211, 229, 230, 231, 232, 233, 234, 235, 294, 295, 296,
+             299, 300, 301, 350, 399, 400)
+    for t in steps:
+        for trip in (10, 120, 200):
+            c.open(trip, [t] * 12)
+            c.say("fields")
+    for t in steps:
+        c.open(120, [t] * 6 + [-100] * 6)
+        c.add(EXAMPLE)
+        c.add((4, 1000, 10000, (40, 40, 20), (20, 60, 100)))
+        c.add((6, 1000, 10000, (40, 40, 20), (20, 60, 100)))
+        c.say("list")
+
+
+def balances(c):
+    """k and S at their edges: F is set by hand, so that S × 10^12 / F falls where it is wanted."""
+    def fuel_used(count, f, others):
+        c.open(120, MILD)
+        c.set(COUNT, 0, count)
+        c.set(GRAMS, PLACES.index((3, 5, "rural")), f)
+        for kind in ref.KINDS:
+            c.set(GRAMS, PLACES.index((3, 1, kind)), others)
+
+    # F 0 comes before S over its limit.
+    fuel_used(1, 0, 5)
+    for sold in (0, 1, 999999999, 1000000000, MAX):
+        c.say("balance", 3, 1, sold)
+    # F below half a gram prints as 0; at half a gram as 1, and k is then far above 64 bits.
+    c.set(REST, PLACES.index((3, 5, "rural")), 499999999)
+    c.say("balance", 3, 1, 999999999)
+    c.set(REST, PLACES.index((3, 5, "rural")), 500000000)
+    for sold in (0, 1, 18446744, 999999999, 1000000000):
+        c.say("balance", 3, 1, sold)
+    # F of 2 × 10^12: k is 499,999.5 (up to 500,000) and 1,500,000.5 (up to 1,500,001), and the steps beside them.
+    fuel_used(3, 2 * 10**12, 999999999999)
+    for sold in (999998, 999999, 1000000, 1000001, 2999999, 3000000, 3000001, 3000002):
+        for q in (1, 5):
+            c.say("balance", 3, q, sold)
+    # S of 1: the grams around k of 500,000 and of 1,500,000.
+    for f in (2000000, 2000001, 2000002, 2000003, 666665, 666666, 666667, 666668):
+        fuel_used(1, f, 123456789012)
+        c.say("balance", 3, 1, 1)
+    # The largest S, products and totals.
+    for f in (2000002000001999, 2000001999999999, 2000001999999998, 2 * 10**15, 10**15, 999999998999999,
+              666666666000000, 666666665333334, 666666665333333, 666666443777778, 666666443777777, 666666443777776):
+        fuel_used(5000, f, 5 * 10**15)
+        for sold in (999999999, 999999998, 1000000000):
+            c.say("balance", 3, 1, sold)
+            c.say("balance", 3, 5, sold)
+    # A balanced total exactly at a half.
+    for grams in (0, 1, 2, 3, 499999, 500001):
+        fuel_used(1, 1000000, 0)
+        c.set(GRAMS, PLACES.index((3, 2, "cold")), grams)
+        for f in (2000000, 1000000, 800000):
+            c.set(GRAMS, PLACES.index((3, 5, "rural")), f)
+            c.say("balance", 3, 2, 1)
+
+
+def rounding(c):
+    """Printed kinds and totals at the half gram, and kinds that miss the total by 2 g."""
+    c.open(120, MILD)
+    c.set(COUNT, 0, 1)
+    for rests in ((0, 0, 0, 0), (499999999,) * 4, (500000000,) * 4, (999999999,) * 4, (125000000,) * 4, (124999999,) * 4,
+                  (500000000, 0, 0, 0), (499999999, 0, 0, 0), (250000000, 250000000, 0, 0), (1, 499999999, 0, 0)):
+        for kind, rest in zip(ref.KINDS, rests):
+            c.set(REST, PLACES.index((2, 4, kind)), rest)
+        for grams in (0, 7):
+            c.set(GRAMS, PLACES.index((2, 4, "rural")), grams)
+            for kind in range(4):
+                c.say("kind", 2, 4, kind)
+            c.say("total", 2, 4)
+            c.say("report", 100)
+
+
+def order(c):
+    """Each condition of `in order` at its limit and one step over, asked through every call."""
+    def probe(field, index, values, after):
+        for value in values:
+            c.open(120, MILD)
+            c.add(EXAMPLE, 3)
+            c.set(field, index, value)
+            for extra in after:
+                c.set(*extra)
+            c.ask_all()
+    probe(TRIP, 0, (0, 9, 10, 200, 201, MAX), ())
+    for i in (0, 7, 14):
+        probe(X, i, (4900000000, 4900000001, MAX), ())
+    probe(COUNT, 0, (0, 1, 4999, 5000, 5001, MAX), ())
+    for i in (0, 1, 2):
+        probe(KM, i, (3 * 10**9, 3 * 10**9 + 1, MAX), ())
+    for i in (0, 17, 33, 59):
+        probe(REST, i, (999999999, 1000000000, MAX), ())
+        probe(GRAMS, i, (3 * 10**12,), [(REST, i, 0)])
+        probe(GRAMS, i, (3 * 10**12,), [(REST, i, 1)])
+        probe(GRAMS, i, (3 * 10**12 - 1,), [(REST, i, 999999999)])
+        probe(GRAMS, i, (3 * 10**12 + 1, MAX), [(REST, i, 0)])
+    # The count decides the limits: the same sums and kilometres under a lower count.
+    probe(GRAMS, 20, (3 * 10**12,), [(COUNT, 0, 2)])
+    probe(KM, 1, (3 * 10**9,), [(COUNT, 0, 2)])
+    c.say("fields")
+    # Every sum and the kilometres at the limits of a full run: the longest report.
+    c.open(10, [-300] * 12)
+    c.set(COUNT, 0, 5000)
+    for i in range(60):
+        c.set(GRAMS, i, 5 * 10**15)
+    for i in range(3):
+        c.set(KM, i, 5 * 10**12)
+    c.say("list")
+    for size in (1454, 1455, 1456):
+        c.say("report", size)
+    c.add(EXAMPLE)
+    # The same sums one record earlier, where one more is still taken.
+    c.set(COUNT, 0, 4999)
+    c.say("total", 1, 1)
+    for i in range(60):
+        c.set(GRAMS, i, 4999 * 10**12)
+    for i in range(3):
+        c.set(KM, i, 4999 * 10**9)
+    c.add((6, 1000000, 1000, (100, 0, 0), (130, 130, 130)))
+    c.say("fields")
+    c.say("list")
+
+
+def full_runs(c):
+    """Runs filled to 5,000 records, the 5,001st refused, large K."""
+    c.open(10, [-300] * 12)
+    c.add((6, 1000000, 1000, (100, 0, 0), (130, 130, 130)), 5000)
+    c.say("fields")
+    c.add((6, 1000000, 1000, (100, 0, 0), (130, 130, 130)))
+    c.say("fields")
+    c.say("list")
+    # The tight list.
+    c.open(*tight_list.HEAD)
+    c.add(tight_list.RECORD, 2)
+    c.say("list")
+    c.add(tight_list.RECORD, 4999)
+    c.say("fields")
+    c.say("list")
+    # All fuels, with refused records between.
+    c.open(58, [-41, -12, 33, 97, 148, 171, 203, 188, 140, 99, 47, -7])
+    c.add((1, 999983, 1000, (37, 41, 22), (19, 67, 113)), 900)
+    c.add((1, 999983, 1000, (37, 41, 21), (19, 67, 113)), 7)
+    c.add((2, 31, 31622777, (37, 41, 22), (19, 67, 113)), 3)
+    c.add((2, 999001, 1000, (37, 41, 22), (21, 69, 111)), 900)
+    c.add((3, 1001, 998999, (11, 13, 76), (23, 71, 109)), 800)
+    c.add((4, 99991, 9999, (59, 40, 1), (29, 73, 107)), 800)
+    c.add((5, 7, 142857, (3, 5, 92), (10, 130, 131)), 5)
+    c.add((5, 7001, 142819, (3, 5, 92), (10, 130, 130)), 600)
+    c.add((6, 1000, 999999, (90, 9, 1), (130, 131, 10)))
+    c.add((6, 1000, 999999, (90, 9, 1), (130, 13, 10)), 500)
+    c.add((7, 1, 1, (33, 33, 34), (31, 79, 103)), 499)
+    c.say("fields")
+    c.say("list")
+    c.add((7, 1000000, 1000, (33, 33, 34), (31, 79, 103)))
+    c.say("fields")
+    c.add((7, 1000000, 1000, (33, 33, 34), (31, 79, 103)))
+    c.add((7, 1000000, 1001, (33, 33, 34), (31, 79, 103)))
+    c.say("fields")
+    c.say("list")
+    c.say("report", 1600)
+    for fuel in ref.FUELS:
+        for quantity in ref.QUANTITIES:
+            c.say("balance", fuel, quantity, (270000000, 90000000, 39999999)[fuel - 1])
+
+
+def any_order(c):
+    """The same records in two orders, refused ones between: the same report."""
+    rng = random.Random(8)
+    head = 44, [-90, -61, -3, 41, 88, 133, 171, 166, 121, 67, 22, -48]
+    records = [some_record(rng) for _ in range(30)]
+    for _ in range(2):
+        c.open(*head)
+        for record in records:
+            c.add(record)
+        c.say("fields")
+        c.say("report", 1600)
+        rng.shuffle(records)
+        records.insert(7, (8, 1, 1, (100, 0, 0), (10, 10, 10)))
+
+
+def some_record(rng):
+    """A record within the limits."""
+    vehicles = int(10 ** rng.uniform(0, 6))
+    km = rng.randint(1, min(999999, 10**9 // vehicles))
+    urban = rng.randint(0, 100)
+    rural = rng.randint(0, 100 - urban)
+    return (rng.randint(1, 7), vehicles, km, (urban, rural, 100 - urban - rural),
+            tuple(rng.randint(10, 130) for _ in range(3)))
+
+
+def anything(c):
+    """Heads and records at random within the limits."""
+    rng = random.Random(1997)
+    for _ in range(60):
+        c.open(rng.randint(10, 200), [rng.randint(-300, 400) for _ in range(12)])
+        for _ in range(rng.randint(1, 12)):
+            c.add(some_record(rng), rng.choice((1, 1, 2, 5)))
+        c.say("fields")
+        c.say("list")
+
+
+def cases():
+    """Every line of standard input."""
+    c = Cases()
+    for part in (example, grounds, head_limits, record_limits, several_wrong, questions, classes, warm, balances, rounding,
+                 order, full_runs, any_order, anything):
+        part(c)
+    return c.lines
+
+
+def distance(head, records, run):
+    """Demand 3 of one list: the count, the kilometres, and each total within its distance of the exact sum."""
+    count, km, sums = ref.tally(head, records)
+    assert (count, km) == (run.count, run.km)
+    for (fuel, quantity), exact in sums.items():
+        allowed = Fraction(1, 2) + Fraction(3, 2) * km[fuel] / 10**7
+        assert abs(ref.total(run, fuel, quantity)[1] - exact) <= allowed
+
+
+class Answers:
+    """What each line is answered, by the reference."""
+
+    def __init__(self):
+        self.run = ref.Run()
+        # The list since the last taken opening, or None where the run was changed by hand.
+        self.head, self.records = None, []
+
+    def open(self, trip, *temps):
+        number, self.run = ref.open_run((trip, temps))
+        self.head, self.records = ((trip, temps) if number == 0 else None), []
+        return [number]
+
+    def add(self, times, cls, vehicles, km, *rest):
+        record = cls, vehicles, km, rest[:3], rest[3:]
+        number = 0
+        for _ in range(times):
+            number, self.run = ref.add(self.run, record)
+            self.records.append(record)
+        return [number, self.run.count]
+
+    def set(self, field, index, value):
+        run = self.run = self.run.copy()
+        self.head = None
+        if field == TRIP:
+            run.trip = value
+        elif field == COUNT:
+            run.count = value
+        elif field == X:
+            run.x[ref.FUELS[index // 5], ref.QUANTITIES[index % 5]] = value
+        elif field == KM:
+            run.km[ref.FUELS[index]] = value
+        else:
+            (run.grams if field == GRAMS else run.rests)[PLACES[index]] = value
+        return []
+
+    def total(self, fuel, quantity):
+        return ref.total(self.run, fuel, quantity)
+
+    def kind(self, fuel, quantity, kind):
+        return ref.kind_total(self.run, fuel, quantity, ref.KINDS[kind])
+
+    def balance(self, fuel, quantity, sold):
+        return ref.balance(self.run, fuel, quantity, sold)
+
+    def report(self, size):
+        number, length, buffer = ref.write_report(self.run, b"." * size)
+        return [number, str(length) + "\n" + buffer.decode()]
+
+    def list(self):
+        if self.head is not None:
+            distance(self.head, self.records, self.run)
+        out = []
+        for f in ref.FUELS:
+            for q in ref.QUANTITIES:
+                out += ["\n ", f, q]
+                for kind in ref.KINDS:
+                    out += ref.kind_total(self.run, f, q, kind)
+                out += ref.total(self.run, f, q)
+        return out
+
+    def fields(self):
+        run = self.run
+        sums = [n for place in PLACES for n in (run.grams[place], run.rests[place])]
+        return [run.trip, *run.x.values(), run.count, *run.km.values(), *sums]
+
+    def line(self, text):
+        call, *numbers = text.split(" ")
+        answer = getattr(self, call)(*[int(n) for n in numbers])
+        return text + " =" + "".join(" %s" % a for a in answer).replace(" \n", "\n") + "\n"
+
+
+def main():
+    folder = os.path.join(os.path.dirname(os.path.abspath(__file__)), "..", "crates", "vectors")
+    lines, answers = cases(), Answers()
+    texts = {"stdin": "".join(line + "\n" for line in lines), "stdout": "".join(answers.line(line) for line in lines)}
+    for name, text in texts.items():
+        path = os.path.join(folder, name)
+        if sys.argv[1:] == ["--check"]:
+            with open(path) as file:
+                if file.read() != text:
+                    sys.exit("%s is not what tools/vectors.py writes" % path)
+        else:
+            with open(path, "w") as file:
+                file.write(text)
+
+
+if __name__ == "__main__":
+    main()
