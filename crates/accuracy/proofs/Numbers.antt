@@ -11,9 +11,10 @@ use Rattle.inventory.specs.Adding.{billionths, hotPart, coldRate, coldPart, par
 use Rattle.inventory.specs.Opening.{emptyRun, freshRun, openNumber, openRun}
 use Rattle.inventory.specs.Printed.{exactTotal, printedTotal}
 use Rattle.fuel.specs.Balance.{balanceRatio, balancedTotal, balanceGrounds, balanceNumber, balanceOf}
+use Rattle.fuel.specs.FromFuel.{co2Grams, leadGrams}
 use Rattle.accuracy.specs.Claim.{runAfter}
 use Rattle.accuracy.specs.Numbers.{exampleRun, figures, NumbersClaim}
 
 pub numbers : NumbersClaim
-unfolding tab allBelow sumTo outside firstFit halfUp fuelOf hasCold coefficients twoStroke quadratic curve emissionFactor temperatureOk coldShare slopes coldRatio coldExcess monthProduct coldSum coldX coldFactor temperaturesWrong headGrounds vehicleKm sharesWrong speedsWrong recordGrounds sumAt sumWithin inOrder billionths hotPart coldRate coldPart partOf partAt slotAfter kmOf kmAfter runWith addGrounds addNumber addRun emptyRun freshRun openNumber openRun exactTotal printedTotal balanceRatio balancedTotal balanceGrounds balanceNumber balanceOf runAfter exampleRun figures
-numbers = (refl, (refl, (refl, (refl, (refl, (refl, (refl, (refl, (refl, (refl, (refl, tt)))))))))))
+unfolding tab allBelow sumTo outside firstFit halfUp fuelOf hasCold coefficients twoStroke quadratic curve emissionFactor temperatureOk coldShare slopes coldRatio coldExcess monthProduct coldSum coldX coldFactor temperaturesWrong headGrounds vehicleKm sharesWrong speedsWrong recordGrounds sumAt sumWithin inOrder billionths hotPart coldRate coldPart partOf partAt slotAfter kmOf kmAfter runWith addGrounds addNumber addRun emptyRun freshRun openNumber openRun exactTotal printedTotal balanceRatio balancedTotal balanceGrounds balanceNumber balanceOf co2Grams leadGrams runAfter exampleRun figures
+numbers = (refl, (refl, (refl, (refl, (refl, (refl, (refl, (refl, (refl, (refl, (refl, (refl, (refl, tt)))))))))))))

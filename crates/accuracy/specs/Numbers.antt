@@ -12,6 +12,7 @@ use Rattle.inventory.specs.declared.Record.{Record}
 use Rattle.inventory.specs.declared.Run.{Run}
 use Rattle.inventory.specs.Opening.{openRun}
 use Rattle.fuel.specs.Balance.{balanceOf}
+use Rattle.fuel.specs.FromFuel.{co2Grams, leadGrams}
 use Rattle.accuracy.specs.Claim.{runAfter}
 
 -- head `  120` and twelve `  100`
@@ -58,6 +59,10 @@ figures =
     -- S 1000: k, and the balanced CO
     ∷ figure (balanceOf exampleRun 1 1 1000 .k) 1039246
     ∷ figure (balanceOf exampleRun 1 1 1000 .grams) 28197012
+    -- F 13,825,400 with R 1,800: CO2
+    ∷ figure (co2Grams 13825400 1800) 44011000
+    -- F 1,000,000 at l 2: lead
+    ∷ figure (leadGrams 1000000 2) 2
     ∷ []
 
 abbrev pub AllPrinted : List Figure → Type 0
