@@ -26,7 +26,7 @@ struct Row {
 }
 
 // A number of width w at a position.
-fn number_at(b: &mut [u8], at: usize, w: usize, n: u64)
+pub fn number_at(b: &mut [u8], at: usize, w: usize, n: u64)
     requires { ⌜ at + w ≤ length (now b) ⌝ }
     ensures { λ r. ⌜ now (b .exit) ≡ sets (now (b .entry)) at (render w n) ⌝ }
 {
@@ -35,7 +35,7 @@ fn number_at(b: &mut [u8], at: usize, w: usize, n: u64)
 }
 
 // Bytes at a position.
-fn bytes_at(b: &mut [u8], at: usize, s: &[u8])
+pub fn bytes_at(b: &mut [u8], at: usize, s: &[u8])
     requires { ⌜ at + length (now s) ≤ length (now b) ⌝ }
     ensures { λ r. ⌜ now (b .exit) ≡ sets (now (b .entry)) at (now (s .entry)) ⌝ }
 {

@@ -2,6 +2,7 @@
 ghost use mathlib.Core.Path.{_≡_};
 ghost use Prim.Native.Nat.{_*_, _<_};
 ghost use Rattle.units.specs.Grounds.{outside};
+ghost use Rattle.units.specs.Refusals.{refusalNumber};
 ghost use Rattle.units.specs.Rounding.{halfUp, nearest, Scale};
 
 // A mass in grams.
@@ -56,6 +57,30 @@ pub enum Refusal {
 pub enum Verdict {
     Taken,
     Refused(Refusal),
+}
+
+// Document 01's number of a refusal.
+pub fn refusal_number(r: Refusal) -> u64
+    ensures { λ n. ⌜ n ≡ refusalNumber r ⌝ }
+{
+    match r {
+        Refusal::TripLength => 1,
+        Refusal::Temperature => 2,
+        Refusal::Class => 3,
+        Refusal::Vehicles => 4,
+        Refusal::Kilometres => 5,
+        Refusal::Distance => 6,
+        Refusal::Shares => 7,
+        Refusal::RoadSpeed => 8,
+        Refusal::FullRun => 9,
+        Refusal::LineShape => 10,
+        Refusal::FuelOrQuantity => 11,
+        Refusal::NoFuelUsed => 12,
+        Refusal::SoldFuel => 13,
+        Refusal::ShortBuffer => 14,
+        Refusal::FuelContent => 15,
+        Refusal::RunOrder => 16,
+    }
 }
 
 // Whether x is not from lo to hi.
