@@ -2,7 +2,7 @@
 ghost use mathlib.Core.Path.{_≡_};
 ghost use Prim.Native.Nat.{_*_, _<_};
 ghost use Rattle.units.specs.Grounds.{outside};
-ghost use Rattle.units.specs.Refusals.{refusalNumber};
+ghost use Rattle.units.specs.Refusals.{refusalNumber, verdictNumber};
 ghost use Rattle.units.specs.Rounding.{halfUp, nearest, Scale};
 
 // A mass in grams.
@@ -80,6 +80,16 @@ pub fn refusal_number(r: Refusal) -> u64
         Refusal::ShortBuffer => 14,
         Refusal::FuelContent => 15,
         Refusal::RunOrder => 16,
+    }
+}
+
+// The number of a verdict: 0 for what is taken.
+pub fn verdict_number(v: Verdict) -> u64
+    ensures { λ n. ⌜ n ≡ verdictNumber v ⌝ }
+{
+    match v {
+        Verdict::Taken => 0,
+        Verdict::Refused(r) => refusal_number(r),
     }
 }
 
