@@ -28,25 +28,25 @@ pub struct Sheet {
 }
 
 // A number with a sign, or none.
-pub enum Signed {
+enum Signed {
     Value(i64),
     Bad,
 }
 
 // Twelve temperatures, and whether their fields are numbers.
-pub struct Temps {
+struct Temps {
     pub ok: bool,
     pub temps: [i64; 12],
 }
 
 // A head, and whether its fields are numbers.
-pub struct HeadLine {
+struct HeadLine {
     pub ok: bool,
     pub head: Head,
 }
 
 // A record, and whether its fields are numbers.
-pub struct RecordLine {
+struct RecordLine {
     pub ok: bool,
     pub rec: Record,
 }
