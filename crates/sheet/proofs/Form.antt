@@ -5,10 +5,9 @@ use Prim.Native.Nat.{ℕ}
 use Rattle.inventory.specs.declared.Head.{Head}
 use Rattle.inventory.specs.declared.Record.{Record}
 use Rattle.inventory.specs.Opening.{openRun}
-use Rattle.accuracy.specs.Reference.{referenceOf}
-use Rattle.accuracy.specs.Claim.{runAfter, ListClaim}
+use Rattle.accuracy.specs.Claim.{runAfter}
 use Rattle.accuracy.proofs.Whole.{every-list}
-use Rattle.sheet.specs.Sheet.{sheetOf, sheetRun, Outcome}
+use Rattle.sheet.specs.Sheet.{sheetRun, Outcome}
 use Rattle.sheet.specs.Claim.{StatedForm, SheetClaim}
 use Rattle.sheet.proofs.OnlyRenderings.{sheet-only}
 use Rattle.sheet.proofs.Renderings.{sheet-taken}

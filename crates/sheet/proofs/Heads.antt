@@ -1,19 +1,18 @@
 -- The head: a loop that fills an array with twelve numbers, and what stands before them. Assumes nothing.
-use Prim.Native.Nat.{ℕ, zero, suc, _+_, _-_, _*_, _≤_, _<_}
+use Prim.Native.Nat.{ℕ, suc, _+_, _-_, _≤_, _<_}
 use mathlib.Core.Path.{_≡_, refl, sym, ap, _∙_}
 use mathlib.Core.Bool.{true, false}
-use mathlib.Core.List.{List, [], _∷_, _++_, append-nil}
+use mathlib.Core.List.{List, _∷_, _++_, append-nil}
 use mathlib.Core.Option.{Option, none, some}
 use native.Mathlib.Numerals.{add-one}
 use native.Mathlib.Omega.{arith}
 use lib.IntN.{ℤ, pos, negsuc}
 use lib.ListN.{length, take, drop, set, replicate}
 use lib.Seq.{take-suc-set, append-snoc, take-all}
-use Rattle.inventory.specs.declared.Head.{Head}
 use Rattle.text.specs.Field.{parse}
 use Rattle.sheet.specs.declared.Signed.the-variants as signed
-use Rattle.sheet.specs.Lines.{headWidths, fields, signedOf, numberIn, before, numbersIn}
-use Rattle.sheet.specs.Sheet.{andThen, countOf, headWith}
+use Rattle.sheet.specs.Lines.{headWidths, fields, numberIn, before, numbersIn}
+use Rattle.sheet.specs.Sheet.{andThen, headWith}
 use Rattle.sheet.specs.Reading.{fieldsFrom, countIn, signedCase, tempsCase}
 use Rattle.sheet.proofs.Counts.{fields-from, number-plus, count-small}
 

@@ -1,18 +1,17 @@
 -- The first line of bytes, and its numbers, by places: what makes a search for LF needless. Assumes nothing.
 use Prim.Native.Nat.{ℕ, zero, suc, _+_, _-_, _≤_, _<_}
 use mathlib.Core.Path.{_≡_, refl, sym, ap, _∙_}
-use mathlib.Core.List.{List, [], _∷_, _++_}
-use mathlib.Core.Bool.{Bool, true, false, cond, _&&_}
+use mathlib.Core.List.{List, [], _∷_}
+use mathlib.Core.Bool.{Bool, true, false, cond}
 use mathlib.Core.Option.{Option, none, some}
 use native.Mathlib.Numerals.{add-one}
 use native.Mathlib.Omega.{arith}
 use lib.Dec.{ltb, eqb}
 use lib.IntN.{ℤ}
-use lib.ListN.{length, getD, take, drop, length-take, length-drop}
+use lib.ListN.{length, getD, take, drop, length-drop}
 use lib.Seq.{take-take, getD-take, getD-drop, length-take-le}
 use borrow.Author.Tests.{ltb-true, ltb-false, eqb-true, eq-eqb, ne-eqb}
 use Rattle.units.proofs.Tests.{and-left, and-right}
-use Rattle.text.specs.Field.{parse}
 use Rattle.text.proofs.RoundTrip.{lf-bad}
 use Rattle.sheet.specs.Lines.{glue, lines, total, shaped, fields, signedOf, numberIn, before, numbersIn, numbersOf}
 

@@ -1,12 +1,12 @@
 -- What is taken is a rendering: fields, lines, sheets. Assumes nothing.
-use Prim.Native.Nat.{ℕ, zero, suc, _+_, _-_, _≤_, _<_}
+use Prim.Native.Nat.{ℕ, zero, suc, _+_, _-_}
 use mathlib.Core.Path.{_≡_, refl, sym, ap, _∙_}
 use mathlib.Core.List.{List, [], _∷_, _++_, map}
-use mathlib.Core.Bool.{Bool, true, false, cond, _&&_}
+use mathlib.Core.Bool.{Bool, true, false, cond}
 use mathlib.Core.Option.{Option, none, some}
 use native.Mathlib.Omega.{arith}
 use lib.Dec.{eqb}
-use lib.IntN.{ℤ, pos, negsuc, negℤ}
+use lib.IntN.{ℤ, pos, negsuc}
 use lib.ListN.{length, getD, take, drop, length-drop, take-append-drop}
 use lib.Seq.{getD-drop, length-take-le, ext-getD}
 use borrow.Author.Tests.{eqb-true, eqb-false}
@@ -16,14 +16,13 @@ use Rattle.units.proofs.Tests.{and-left, and-right}
 use Rattle.text.specs.declared.Field.{Field}
 use Rattle.text.specs.declared.Field.the-variants.{Plus, Minus, Bad}
 use Rattle.text.specs.Field.{parse}
-use Rattle.text.specs.Render.{render, renderMinus}
 use Rattle.text.proofs.RoundTrip.{only, only-minus}
 use Rattle.inventory.specs.declared.Head.{Head}
 use Rattle.inventory.specs.declared.Record.{Record}
 use Rattle.inventory.specs.declared.Run.{Run}
 use Rattle.inventory.specs.Opening.{openNumber, openRun}
 use Rattle.inventory.specs.Adding.{addNumber, addRun}
-use Rattle.sheet.specs.Lines.{glue, lines, headWidths, recordWidths, total, shaped, fields, signedOf, numberIn, before, numbersIn, numbersOf}
+use Rattle.sheet.specs.Lines.{glue, lines, headWidths, recordWidths, total, shaped, fields, signedOf, numberIn, numbersIn, numbersOf}
 use Rattle.sheet.specs.Sheet.{andThen, countOf, countsOf, headWith, headOf, recordWith, recordOf, Outcome, refusedAt, decided, lineNumber, lineRun, fromRecords, headNumber, headRun, fromHead, sheetOf}
 use Rattle.sheet.specs.Rendering.{renderSigned, renderLine, temperatureIn, renderHead, recordNumbers, renderRecord, renderRecords, renderSheet}
 use Rattle.sheet.specs.Claim.{TakenInTurn, StatedForm}

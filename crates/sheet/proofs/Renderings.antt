@@ -1,24 +1,17 @@
 -- Renderings are taken: fields, lines, sheets. Assumes nothing.
-use Prim.Native.Nat.{ℕ, zero, suc, _+_, _-_, _*_, _/_, _%_, _^_, _≤_, _<_}
+use Prim.Native.Nat.{ℕ, zero, suc, _+_, _-_, _/_, _%_, _^_, _≤_, _<_}
 use mathlib.Core.Path.{_≡_, refl, sym, ap, _∙_}
 use mathlib.Core.List.{List, [], _∷_, _++_, map, append-assoc}
-use mathlib.Core.Bool.{Bool, true, false, not, cond, _&&_, _||_}
-use mathlib.Core.Option.{Option, none, some}
+use mathlib.Core.Option.{some}
 use native.Mathlib.Omega.{arith}
-use lib.Dec.{eqb, ltb}
-use lib.IntN.{ℤ, pos, negsuc, negℤ, natAbs}
-use lib.ListN.{length, getD, take, drop, replicate, length-append, length-drop}
+use lib.IntN.{ℤ, pos, negsuc, natAbs}
+use lib.ListN.{length, getD, take, drop, length-append}
 use lib.Seq.{take-at, drop-at, getD-append-add, drop-drop}
-use borrow.Author.Tests.{ltb-false, not-false}
-use Rattle.units.specs.Lists.{tab, sumTo, allBelow}
-use Rattle.units.specs.Grounds.{firstFit, outside}
-use Rattle.units.specs.Sizes.{Within}
+use Rattle.units.specs.Lists.{tab, sumTo}
+use Rattle.units.specs.Grounds.{firstFit}
 use Rattle.units.proofs.Grounds.{passed}
 use Rattle.units.proofs.Tab.{tab-at}
-use Rattle.units.proofs.Tests.{or-false-left, or-false-right, inside, inside-low, inside-high, all}
-use Rattle.text.specs.declared.Field.the-variants.{Plus, Minus}
-use Rattle.text.specs.Field.{parse}
-use Rattle.text.specs.Render.{render, renderMinus}
+use Rattle.units.proofs.Tests.{inside, inside-high, all}
 use Rattle.text.proofs.RoundTrip.{taken, taken-minus, length-minus}
 use Rattle.text.proofs.Write.{length-render}
 use Rattle.coldstart.specs.ColdStart.{temperatureOk, Slope, slopeOf, monthProduct, monthAt, coldSum, coldX, Climate}
@@ -26,19 +19,19 @@ use Rattle.coldstart.proofs.ColdStart.{temperature-size}
 use Rattle.inventory.specs.declared.Head.{Head}
 use Rattle.inventory.specs.declared.Record.{Record}
 use Rattle.inventory.specs.declared.Run.{Run}
-use Rattle.inventory.specs.Records.{monthOk, sharesWrong, speedsWrong, recordGrounds}
+use Rattle.inventory.specs.Records.{monthOk, recordGrounds}
 use Rattle.inventory.specs.Opening.{emptyRun, freshRun, openNumber, openRun}
 use Rattle.inventory.specs.Adding.{addNumber, addRun}
 use Rattle.inventory.proofs.Records.{climate, record-limits}
 use Rattle.accuracy.specs.Claim.{runAfter}
 use Rattle.accuracy.proofs.Sums.{tab-alike}
 use Rattle.recording.proofs.Verdicts.{good-head, run-opened, ready}
-use Rattle.sheet.specs.Lines.{lines, headWidths, recordWidths, total, fields, signedOf, numberIn, before, numbersIn, numbersOf}
-use Rattle.sheet.specs.Sheet.{andThen, countOf, countsOf, headWith, headOf, recordWith, recordOf, Outcome, decided, fromRecords, fromHead, sheetOf}
+use Rattle.sheet.specs.Lines.{lines, headWidths, recordWidths, total, fields, signedOf, numberIn, numbersIn, numbersOf}
+use Rattle.sheet.specs.Sheet.{countsOf, headOf, recordOf, fromRecords, fromHead, sheetOf}
 use Rattle.sheet.specs.Rendering.{renderSigned, renderLine, temperatureIn, renderHead, recordNumbers, renderRecord, renderRecords, renderSheet}
 use Rattle.sheet.specs.Claim.{TakenInTurn, StatedForm}
 use Rattle.sheet.proofs.Lines.{lineLength, first-line, whole-line, line-numbers}
-use Rattle.sheet.proofs.Walk.{asRecord, record-made, decided-taken}
+use Rattle.sheet.proofs.Walk.{record-made, decided-taken}
 
 -- ---- a field
 

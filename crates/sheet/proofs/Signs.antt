@@ -1,17 +1,15 @@
 -- Numbers of a field as signed ones, and what the two readers of a field answer. Assumes nothing.
 use Prim.Native.Nat.{ℕ, zero, suc, _+_, _-_, _≤_, _<_}
-use mathlib.Core.Path.{_≡_, refl, sym, ap, _∙_}
+use mathlib.Core.Path.{_≡_, ap, _∙_}
 use mathlib.Core.List.{List}
-use mathlib.Core.Option.{Option, none, some}
 use native.Mathlib.Omega.{arith}
-use lib.IntN.{ℤ, pos, negsuc, negℤ, _-ℤ_, +ℤ-idl}
+use lib.IntN.{ℤ, pos, negℤ, _-ℤ_, +ℤ-idl}
 use lib.ListN.{take, drop}
 use mir.Syntax.{w64}
 use mir.Val.{SFits, toZ, ofZ}
 use mir.Facts.{toZ-pos, toZ-ofZ}
 use Rattle.text.specs.declared.Field.{Field}
 use Rattle.text.specs.Field.{parse}
-use Rattle.sheet.specs.declared.Signed.{Signed}
 use Rattle.sheet.specs.Lines.{signedOf, numberIn}
 use Rattle.sheet.specs.Reading.{countOr, countIn, signedCase}
 use Rattle.sheet.proofs.Counts.{count-most}

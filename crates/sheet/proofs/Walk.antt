@@ -1,11 +1,11 @@
 -- One line of a sheet after the other, by places. Assumes nothing.
-use Prim.Native.Nat.{ℕ, zero, suc, _+_, _-_, _≤_, _<_}
+use Prim.Native.Nat.{ℕ, _+_, _-_, _≤_, _<_}
 use mathlib.Core.Path.{_≡_, refl, sym, ap, _∙_}
 use mathlib.Core.List.{List, [], _∷_}
 use mathlib.Core.Bool.{Bool, true, false}
 use mathlib.Core.Option.{Option, none, some}
 use native.Mathlib.Omega.{arith}
-use lib.Dec.{eqb, ltb}
+use lib.Dec.{eqb}
 use lib.IntN.{ℤ}
 use lib.ListN.{length, getD, take, drop, drop-of-length-le, length-drop}
 use lib.Seq.{drop-drop, getD-drop}
@@ -23,7 +23,7 @@ use Rattle.sheet.specs.declared.RecordLine.{RecordLine}
 use Rattle.sheet.specs.declared.HeadLine.{HeadLine}
 use Rattle.sheet.specs.Lines.{lines, headWidths, recordWidths, total, fields, numbersIn, numbersOf}
 use Rattle.sheet.specs.Sheet.{andThen, countsOf, headWith, headOf, recordWith, recordOf, Outcome, refusedAt, decided, fromRecords, fromHead, sheetOf}
-use Rattle.sheet.specs.Reading.{fieldsFrom, countIn, countsIn, together, recordLine, headCase, Gives}
+use Rattle.sheet.specs.Reading.{fieldsFrom, countsIn, together, recordLine, headCase, Gives}
 use Rattle.sheet.proofs.Lines.{lineLength, first-line, line-cases, too-short, no-lf, whole-line, line-numbers}
 use Rattle.sheet.proofs.Counts.{fields-from, sumList, counts-good, counts-bad}
 

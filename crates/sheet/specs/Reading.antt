@@ -20,8 +20,7 @@ use Rattle.sheet.specs.declared.Temps.{Temps}
 use Rattle.sheet.specs.declared.HeadLine.{HeadLine}
 use Rattle.sheet.specs.declared.RecordLine.{RecordLine}
 use Rattle.sheet.specs.declared.Sheet.{Sheet}
-use Rattle.sheet.specs.Lines.{numberIn, numbersIn}
-use Rattle.sheet.specs.Sheet.{andThen, headWith, recordWith, Outcome}
+use Rattle.sheet.specs.Sheet.{recordWith, Outcome}
 
 -- the bytes from a place on cut into fields
 unfoldable pub fieldsFrom : List ℕ → List ℕ → ℕ → List (List ℕ)

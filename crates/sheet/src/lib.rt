@@ -226,8 +226,7 @@ fn read_records(s: &[u8], from: usize, first: Run) -> Sheet
             }
             Verdict::Taken => {}
         }
-        let next = a.run;
-        run = next;
+        run = a.run;
         at += 41;
         n += 1;
     }

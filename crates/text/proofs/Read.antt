@@ -1,5 +1,5 @@
 -- What the reader's loops lean on: one byte more at a place, and more than nine digits. Assumes nothing.
-use Prim.Native.Nat.{ℕ, zero, suc, _+_, _-_, _*_, _^_, _≤_, _<_}
+use Prim.Native.Nat.{ℕ, suc, _+_, _-_, _*_, _^_, _≤_, _<_}
 use mathlib.Core.Path.{_≡_, refl, sym, ap, _∙_}
 use mathlib.Core.List.{List, [], _∷_}
 use mathlib.Core.Bool.{Bool, true, false, not, cond, _&&_}
@@ -9,10 +9,9 @@ use native.Mathlib.Omega.{arith}
 use lib.Dec.{ltb, leb, eqb}
 use lib.ListN.{length, getD, drop, drop-of-length-le, length-drop}
 use lib.Seq.{drop-cons}
-use borrow.Author.Tests.{lt-ltb, le-ltb, le-leb, lt-leb, eq-eqb, ne-eqb, leb-true, leb-false, ltb-true}
-use Rattle.text.specs.declared.Field.{Field}
+use borrow.Author.Tests.{lt-ltb, le-leb, lt-leb, eq-eqb, ne-eqb, leb-true, leb-false, ltb-true}
 use Rattle.text.specs.declared.Field.the-variants.{Plus, Minus, Bad}
-use Rattle.text.specs.Field.{State, blank, signed, digits, wrong, isDigit, firstDigit, nextDigit, step, scan, said, parse}
+use Rattle.text.specs.Field.{State, blank, signed, digits, wrong, isDigit, firstDigit, step, scan, said, parse}
 use Rattle.text.specs.Reading.{begun, Spaces}
 
 pub digit-low : (b : ℕ) → b < 48 → isDigit b ≡ false

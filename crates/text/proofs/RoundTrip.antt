@@ -5,13 +5,12 @@ use mathlib.Core.List.{List, [], _∷_, _++_, append-assoc, append-nil}
 use mathlib.Core.Bool.{Bool, true, false, not, cond, _&&_}
 use native.Mathlib.Nat.{pow-succ', one-le-pow}
 use native.Mathlib.Omega.{arith}
-use lib.ListN.{length, getD, drop, take, length-append, take-append-drop}
+use lib.ListN.{length, getD, drop, take, take-append-drop}
 use lib.Seq.{drop-cons}
 use lib.Dec.{ltb, leb, eqb}
-use borrow.Author.Tests.{ltb-true, leb-true, eqb-true, eqb-false, lt-ltb, eq-eqb, ne-eqb, not-true}
-use Rattle.text.specs.Field.{State, blank, signed, digits, wrong, isDigit, firstDigit, nextDigit, step, scan, said, parse}
+use borrow.Author.Tests.{ltb-true, leb-true, eqb-true, eqb-false, lt-ltb, ne-eqb, not-true}
+use Rattle.text.specs.Field.{State, blank, signed, digits, wrong, isDigit, step, scan, said, parse}
 use Rattle.text.specs.Render.{glyphOf, pad, render, renderMinus}
-use Rattle.text.specs.declared.Field.{Field}
 use Rattle.text.specs.declared.Field.the-variants.{Plus, Minus, Bad}
 use Rattle.text.proofs.Read.{digit-in, scan-wrong}
 use Rattle.text.proofs.Write.{length-pad}

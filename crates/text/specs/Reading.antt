@@ -7,7 +7,7 @@ use mathlib.Core.List.{List, [], _∷_}
 use lib.ListN.{length, getD, drop}
 use Rattle.text.specs.declared.Field.{Field}
 use Rattle.text.specs.declared.Field.the-variants.{Bad}
-use Rattle.text.specs.Field.{State, blank, firstDigit, scan, said}
+use Rattle.text.specs.Field.{blank, firstDigit, scan, said}
 
 -- the bytes before a place are spaces, and there is no space at it
 pub record Spaces (bytes : List ℕ) (i : ℕ) : Type 0 where

@@ -1,5 +1,5 @@
 -- `recording::add` meets its contract. Assumes nothing.
-use mathlib.Core.Path.{_≡_, refl, sym, _∙_}
+use mathlib.Core.Path.{refl, sym, _∙_}
 use borrow.Author.Tests.{not-true, not-false}
 use Rattle.units.specs.Refusals.{verdictNumber, refusalNumber}
 use Rattle.recording.proofs.Verdicts.{add-unordered, run-kept}

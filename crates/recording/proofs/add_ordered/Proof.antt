@@ -1,5 +1,5 @@
 -- `recording::add_ordered` meets its contract. Assumes nothing.
-use mathlib.Core.Path.{_≡_, refl, ap, sym, _∙_}
+use mathlib.Core.Path.{sym, _∙_}
 use Rattle.units.specs.Refusals.{verdictNumber}
 use Rattle.units.proofs.Refusals.{number-positive, taken-number, refused-number}
 use Rattle.inventory.proofs.Order.{run-limits}

@@ -1,5 +1,5 @@
 -- `sheet::head_at` meets its contract. Assumes nothing.
-use mathlib.Core.Path.{refl, sym, ap, _∙_}
+use mathlib.Core.Path.{sym, ap, _∙_}
 use borrow.Author.Tests.{not-true, not-false}
 use Rattle.sheet.specs.Reading.{headCase}
 use Rattle.sheet.proofs.Heads.{trip-missing, temps-missing, head-there}

@@ -2,7 +2,6 @@
 use native.Mathlib.Omega.{arith}
 use Rattle.sheet.specs.Lines.{recordWidths}
 use Rattle.sheet.specs.Reading.{fieldsFrom, countsIn}
-use borrow.Author.Needs.{needs}
 use Rattle.sheet.proofs.record_at.Statement.{statement}
 use Rattle.sheet.proofs.record_at.Tie as tie
 

@@ -1,6 +1,6 @@
 -- `text::digits_from` meets its contract. Assumes nothing.
 use Prim.Native.Nat.{_^_, _≤_, _<_, _-_}
-use mathlib.Core.Path.{_≡_, refl, sym, ap, _∙_}
+use mathlib.Core.Path.{_≡_, sym, ap, _∙_}
 use native.Mathlib.Omega.{arith}
 use lib.ListN.{length, drop}
 use Rattle.text.specs.Field.{digits, scan, said}
