@@ -8,175 +8,20 @@ use inventory::Printed;
 use inventory::Run;
 use libc::STDOUT_FILENO;
 use sheet::Sheet;
-use units::Refusal;
-use units::Verdict;
-
-// The number of a refusal.
-fn number_of(x: Refusal) -> u64 {
-    match x {
-        Refusal::TripLength => 1,
-        Refusal::Temperature => 2,
-        Refusal::Class => 3,
-        Refusal::Vehicles => 4,
-        Refusal::Kilometres => 5,
-        Refusal::Distance => 6,
-        Refusal::Shares => 7,
-        Refusal::RoadSpeed => 8,
-        Refusal::FullRun => 9,
-        Refusal::LineShape => 10,
-        Refusal::FuelOrQuantity => 11,
-        Refusal::NoFuelUsed => 12,
-        Refusal::SoldFuel => 13,
-        Refusal::ShortBuffer => 14,
-        Refusal::FuelContent => 15,
-        Refusal::RunOrder => 16,
-    }
-}
-
-// The number of a verdict, 0 where it is taken.
-fn verdict_number(v: Verdict) -> u64 {
-    match v {
-        Verdict::Taken => 0,
-        Verdict::Refused(x) => number_of(x),
-    }
-}
 
 // Room for the cases.
 fn case_space() -> [u8; 524288] {
     [0; 524288]
 }
 
-// Room for one sheet, of 5,002 records at most.
-fn sheet_space() -> [u8; 262144] {
-    [0; 262144]
-}
-
-// The byte at a place, a line end behind the last.
-fn byte_at(b: &[u8], at: usize) -> u8 {
-    if at < b.len() {
-        return b[at];
-    }
-    b'\n'
-}
-
-// The place behind a place, that of the end at most.
-fn behind(b: &[u8], at: usize) -> usize {
-    if at < b.len() {
-        return at + 1;
-    }
-    at
-}
-
-// The place of the line's end.
-fn line_end(b: &[u8], at: usize) -> usize {
-    let mut i = at;
-    let mut turns: u64 = 0;
-    while turns < 1000 && byte_at(b, i) != b'\n' {
-        i = behind(b, i);
-        turns += 1;
-    }
-    i
-}
-
-// The place of the line's word k; the first is word 0.
-fn word(b: &[u8], at: usize, k: u64) -> usize {
-    let mut i = at;
-    let mut left = k;
-    let mut turns: u64 = 0;
-    while turns < 1000 && left > 0 {
-        if byte_at(b, i) == b' ' {
-            left -= 1;
-        }
-        i = behind(b, i);
-        turns += 1;
-    }
-    i
-}
-
-// n with one more digit behind it, modulo 2^64 at the last one.
-fn with_digit(n: u64, c: u8) -> u64 {
-    if n <= 1844674407370955161 && 48 <= c && c <= 57 {
-        let d = c as u64;
-        return std::num::wrapping_add_u64(n * 10, d - 48);
-    }
-    n
-}
-
-// The number at a place.
-fn digits(b: &[u8], at: usize) -> u64 {
-    let mut i = at;
-    let mut n: u64 = 0;
-    let mut turns: u64 = 0;
-    while turns < 20 && byte_at(b, i) >= 48 {
-        n = with_digit(n, byte_at(b, i));
-        i = behind(b, i);
-        turns += 1;
-    }
-    n
-}
-
-// The line's number k.
-fn number(b: &[u8], at: usize, k: u64) -> u64 {
-    digits(b, word(b, at, k))
-}
-
-// A space and a number.
-fn print(n: u64) {
-    io::write_all(STDOUT_FILENO, b" ");
-    io::print_decimal(STDOUT_FILENO, n);
-}
-
-// The bytes from a place to another.
-fn print_part(b: &[u8], from: usize, to: usize) {
-    if from <= to && to <= b.len() {
-        io::write_all(STDOUT_FILENO, &b[from..to]);
-    }
-}
-
-fn print_x(run: Run) {
-    let mut k: usize = 0;
-    while k < 15 {
-        print(run.x[k]);
-        k += 1;
-    }
-}
-
-fn print_km(run: Run) {
-    let mut k: usize = 0;
-    while k < 3 {
-        let m = run.km[k];
-        print(m.0);
-        k += 1;
-    }
-}
-
-fn print_sums(run: Run) {
-    let mut k: usize = 0;
-    while k < 60 {
-        let m = run.grams[k];
-        print(m.0);
-        print(run.rests[k]);
-        k += 1;
-    }
-}
-
-// fields: every field of the run.
-fn print_fields(run: Run) {
-    print(run.trip);
-    print_x(run);
-    print(run.count);
-    print_km(run);
-    print_sums(run);
-}
-
 // A printed total; 0 where it is refused, which no run of a sheet is.
 fn print_total(p: Printed) {
     match p {
         Printed::Given(g) => {
-            print(g.0);
+            harness::print(g.0);
         }
         Printed::Refused(x) => {
-            print(0);
+            harness::print(0);
         }
     }
 }
@@ -244,7 +89,7 @@ fn print_run(run: Run) {
         io::write_all(STDOUT_FILENO, b" zeros");
         return;
     }
-    print_fields(run);
+    harness::print_fields(run);
     print_totals(run, 1);
     print_totals(run, 2);
     print_totals(run, 3);
@@ -253,8 +98,8 @@ fn print_run(run: Run) {
 // The number, the line and the run of a sheet.
 fn print_sheet(s: Sheet) {
     let v = s.verdict;
-    print(verdict_number(v));
-    print(s.line as u64);
+    harness::print(units::verdict_number(v));
+    harness::print(s.line as u64);
     print_run(s.run);
 }
 
@@ -280,8 +125,8 @@ fn append(b: &[u8], from: usize, n: u64, bytes: &mut [u8], len: usize) -> usize 
     let mut to = len;
     let mut i: u64 = 0;
     while i < n {
-        to = store(bytes, to, byte_at(b, at));
-        at = behind(b, at);
+        to = store(bytes, to, harness::byte_at(b, at));
+        at = harness::behind(b, at);
         i += 1;
     }
     to
@@ -303,7 +148,7 @@ fn skip(b: &[u8], at: usize, n: u64) -> usize {
     let mut to = at;
     let mut i: u64 = 0;
     while i < n {
-        to = behind(b, to);
+        to = harness::behind(b, to);
         i += 1;
     }
     to
@@ -311,20 +156,27 @@ fn skip(b: &[u8], at: usize, n: u64) -> usize {
 
 // The place of the line behind this one, and behind its bytes.
 fn next(b: &[u8], at: usize) -> usize {
-    let to = behind(b, line_end(b, at));
-    if byte_at(b, at) == b'+' {
-        return behind(b, skip(b, to, number(b, at, 2)));
+    let to = harness::behind(b, harness::line_end(b, at));
+    if harness::byte_at(b, at) == b'+' {
+        return harness::behind(b, skip(b, to, harness::number(b, at, 2)));
     }
     to
 }
 
 // The sheet's length after a line; a whole sheet is answered, and the next one is empty.
 fn line(b: &[u8], at: usize, bytes: &mut [u8], len: usize) -> usize {
-    if byte_at(b, at) == b'+' {
-        let from = behind(b, line_end(b, at));
-        return append_times(b, from, number(b, at, 2), bytes, len, number(b, at, 1));
+    if harness::byte_at(b, at) == b'+' {
+        let from = harness::behind(b, harness::line_end(b, at));
+        return append_times(
+            b,
+            from,
+            harness::number(b, at, 2),
+            bytes,
+            len,
+            harness::number(b, at, 1),
+        );
     }
-    print_part(b, word(b, at, 1), line_end(b, at));
+    harness::print_part(b, harness::word(b, at, 1), harness::line_end(b, at));
     io::write_all(STDOUT_FILENO, b" =");
     answer(bytes, len);
     io::write_all(STDOUT_FILENO, b"\n");
@@ -345,7 +197,7 @@ fn lines(b: &[u8], bytes: &mut [u8]) {
 
 fn main() {
     let mut b = case_space();
-    let mut bytes = sheet_space();
+    let mut bytes = harness::space();
     let n = io::read_full(0, &mut b);
     lines(&b[..n], &mut bytes);
 }
