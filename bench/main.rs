@@ -1,0 +1,302 @@
+//! Times the archive, in one run and on the same inputs, against (a) the plain reference of tests/differential and (b) the
+//! same tuned by hand (tuned.rs). Every row is the best of many short repetitions, the three taken in turn.
+//!
+//!     bench [REPETITIONS]
+#[path = "../include/haldurap.rs"]
+mod haldurap;
+#[path = "../tests/differential/random.rs"]
+mod random;
+#[path = "../tests/differential/reference.rs"]
+mod reference;
+mod tuned;
+
+use haldurap as c;
+use random::Random;
+use reference as plain;
+use std::hint::black_box;
+use std::time::Instant;
+
+// ---- The same inputs for all three
+
+fn c_record(r: &plain::Record) -> c::Record {
+    let ([u, v, w], [a, b, d]) = (r.shares, r.speeds);
+    c::Record {
+        class: r.class,
+        vehicles: r.vehicles,
+        km: r.km,
+        shares: c::Shares { urban: u, rural: v, highway: w },
+        speeds: c::Speeds { urban: a, rural: b, highway: d },
+    }
+}
+
+fn tuned_record(r: &plain::Record) -> tuned::Record {
+    tuned::Record { class: r.class, vehicles: r.vehicles, km: r.km, shares: r.shares, speeds: r.speeds }
+}
+
+struct Inputs {
+    heads: Vec<plain::Head>,
+    records: Vec<plain::Record>,
+    c_heads: Vec<c::Head>,
+    c_records: Vec<c::Record>,
+    tuned_heads: Vec<tuned::Head>,
+    tuned_records: Vec<tuned::Record>,
+}
+
+fn inputs() -> Inputs {
+    let mut r = Random(7);
+    let heads: Vec<_> = (0..64).map(|_| random::good_head(&mut r)).collect();
+    // whole fleets with kilometres of every size, all classes, and no record that is refused
+    let records: Vec<_> = (0..5000).map(|_| random::good_record(&mut r)).collect();
+    Inputs {
+        c_heads: heads.iter().map(|h| c::Head { trip: h.trip, temps: h.temps }).collect(),
+        tuned_heads: heads.iter().map(|h| tuned::Head { trip: h.trip, temps: h.temps }).collect(),
+        c_records: records.iter().map(c_record).collect(),
+        tuned_records: records.iter().map(tuned_record).collect(),
+        heads,
+        records,
+    }
+}
+
+fn sheet_text(inputs: &Inputs, n: usize) -> Vec<u8> {
+    let mut text = random::head_line(&inputs.heads[0]);
+    for record in &inputs.records[..n] {
+        text.extend(random::record_line(record));
+    }
+    text
+}
+
+// ---- The calls as a program that is linked with a library makes them: none is drawn into the loop
+
+#[inline(never)]
+fn plain_add(run: &mut plain::Run, r: &plain::Record) -> u64 {
+    run.add(r).err().unwrap_or(0)
+}
+
+#[inline(never)]
+fn tuned_add(run: &mut tuned::Run, r: &tuned::Record) -> u64 {
+    tuned::add(run, r)
+}
+
+#[inline(never)]
+fn plain_total(run: &plain::Run, fuel: u64, quantity: u64) -> u64 {
+    run.total(fuel, quantity).unwrap_or(0)
+}
+
+#[inline(never)]
+fn tuned_total(run: &tuned::Run, fuel: u64, quantity: u64) -> u64 {
+    tuned::total(run, fuel, quantity).1
+}
+
+#[inline(never)]
+fn plain_report(run: &plain::Run, buffer: &mut [u8]) -> usize {
+    run.write_report(buffer).unwrap_or(0)
+}
+
+#[inline(never)]
+fn tuned_report(run: &tuned::Run, buffer: &mut [u8]) -> usize {
+    tuned::report(run, buffer).1
+}
+
+#[inline(never)]
+fn plain_sheet(text: &[u8], buffer: &mut [u8]) -> usize {
+    plain::write_sheet_report(text, buffer).unwrap_or(0)
+}
+
+#[inline(never)]
+fn tuned_sheet(text: &[u8], buffer: &mut [u8]) -> usize {
+    tuned::report_sheet(text, buffer).1
+}
+
+#[inline(never)]
+fn plain_open(head: &plain::Head) -> plain::Run {
+    plain::open(head).unwrap_or_default()
+}
+
+#[inline(never)]
+fn tuned_open(head: &tuned::Head, run: &mut tuned::Run) -> u64 {
+    *run = tuned::ZERO;
+    tuned::open(head, run)
+}
+
+#[cfg(sheets)]
+fn our_sheet(text: &[u8], buffer: &mut [u8]) -> usize {
+    c::report_sheet(text, buffer).bytes
+}
+
+/// The archive's sheet calls do not exist yet.
+#[cfg(not(sheets))]
+fn our_sheet(_: &[u8], _: &mut [u8]) -> usize {
+    0
+}
+
+// ---- Measuring
+
+/// The best time of one operation in ns for each of three, taken in turn. `times` operations are done at a time.
+fn best(repetitions: usize, times: usize, mut work: [&mut dyn FnMut(); 3]) -> [f64; 3] {
+    let mut best = [f64::MAX; 3];
+    for _ in 0..repetitions {
+        for (work, best) in work.iter_mut().zip(&mut best) {
+            let start = Instant::now();
+            for _ in 0..times {
+                work();
+            }
+            *best = best.min(start.elapsed().as_nanos() as f64 / times as f64);
+        }
+    }
+    best
+}
+
+fn row(name: &str, times: [f64; 3]) {
+    let [ours, a, b] = times;
+    let verdict = if ours == 0.0 {
+        "no such call in the archive"
+    } else if ours > a {
+        "SLOWER THAN (a)"
+    } else if ours <= 1.2 * b {
+        "within 1.2 of (b)"
+    } else if ours <= 1.5 * b {
+        "within 1.5 of (b)"
+    } else {
+        "OVER 1.5 OF (b)"
+    };
+    println!("{name:<36}{ours:>12.1}{a:>12.1}{b:>12.1}{:>10.2}{:>10.2}  {verdict}", ours / a, ours / b);
+}
+
+/// Adds into a run up to 5,000: ns an add by position, in parts of 500, the best of each part.
+fn adds(inputs: &Inputs, repetitions: usize) -> [[f64; 10]; 3] {
+    let mut best = [[f64::MAX; 10]; 3];
+    for _ in 0..repetitions {
+        let mut run = c::haldurap_open(inputs.c_heads[0]).run;
+        for part in 0..10 {
+            let start = Instant::now();
+            let mut refused = 0;
+            for r in &inputs.c_records[part * 500..part * 500 + 500] {
+                let answer = c::haldurap_add(run, *r);
+                refused |= answer.number;
+                run = answer.run;
+            }
+            best[0][part] = best[0][part].min(start.elapsed().as_nanos() as f64 / 500.0);
+            assert_eq!(refused, 0);
+        }
+        black_box(run);
+        let mut run = plain_open(&inputs.heads[0]);
+        for part in 0..10 {
+            let start = Instant::now();
+            let mut refused = 0;
+            for r in &inputs.records[part * 500..part * 500 + 500] {
+                refused |= plain_add(&mut run, r);
+            }
+            best[1][part] = best[1][part].min(start.elapsed().as_nanos() as f64 / 500.0);
+            assert_eq!(refused, 0);
+        }
+        black_box(run);
+        let mut run = tuned::ZERO;
+        tuned_open(&inputs.tuned_heads[0], &mut run);
+        for part in 0..10 {
+            let start = Instant::now();
+            let mut refused = 0;
+            for r in &inputs.tuned_records[part * 500..part * 500 + 500] {
+                refused |= tuned_add(&mut run, r);
+            }
+            best[2][part] = best[2][part].min(start.elapsed().as_nanos() as f64 / 500.0);
+            assert_eq!(refused, 0);
+        }
+        black_box(run);
+    }
+    best
+}
+
+/// Full runs of all three, which must be the same run.
+fn full_runs(inputs: &Inputs) -> (c::Run, plain::Run, tuned::Run) {
+    let mut ours = c::haldurap_open(inputs.c_heads[0]).run;
+    let mut a = plain_open(&inputs.heads[0]);
+    let mut b = tuned::ZERO;
+    tuned_open(&inputs.tuned_heads[0], &mut b);
+    for i in 0..5000 {
+        let answer = c::haldurap_add(ours, inputs.c_records[i]);
+        ours = answer.run;
+        assert_eq!([answer.number, plain_add(&mut a, &inputs.records[i]), tuned_add(&mut b, &inputs.tuned_records[i])], [0; 3]);
+    }
+    let sums = a.sums.as_flattened().as_flattened();
+    let same = b == tuned::Run { trip: ours.trip, x: ours.x, count: ours.count, km: ours.km, grams: ours.grams, rests: ours.rests };
+    assert!(same && (0..60).all(|i| sums[i] == plain::Sum { grams: ours.grams[i], rest: ours.rests[i] }), "the three runs differ");
+    (ours, a, b)
+}
+
+fn main() {
+    let repetitions: usize = std::env::args().nth(1).map_or(40, |n| n.parse().expect("REPETITIONS"));
+    let inputs = inputs();
+    let (ours, a, b) = full_runs(&inputs);
+    let load = std::fs::read_to_string("/proc/loadavg").unwrap_or_default();
+    println!("load before: {}", load.trim());
+    println!("best of {repetitions} repetitions; ns for one operation; (a) plain reference, (b) tuned by hand\n");
+    println!("{:<36}{:>12}{:>12}{:>12}{:>10}{:>10}", "", "archive", "(a)", "(b)", "to (a)", "to (b)");
+
+    // sheet text to report text
+    let sheets = cfg!(sheets);
+    let mut buffers = [[0u8; c::REPORT_BYTES]; 3];
+    let [buffer, buffer_a, buffer_b] = &mut buffers;
+    let mut lengths = Vec::new();
+    for n in [0, 1, 10, 50, 100, 200, 400, 800, 1200, 1596] {
+        let text = sheet_text(&inputs, n);
+        let want = [plain_sheet(&text, buffer_a), tuned_sheet(&text, buffer_b)];
+        assert!(want[0] == want[1] && buffer_a == buffer_b, "sheets differ at {n} records");
+        assert!(!sheets || (our_sheet(&text, buffer) == want[0] && buffer == buffer_a), "the archive's sheet differs at {n} records");
+        let mut times = best(repetitions, 1 + 2000 / (n + 1), [
+            &mut || { black_box(our_sheet(black_box(&text), black_box(buffer))); },
+            &mut || { black_box(plain_sheet(black_box(&text), black_box(buffer_a))); },
+            &mut || { black_box(tuned_sheet(black_box(&text), black_box(buffer_b))); },
+        ]);
+        if !sheets {
+            times[0] = 0.0;
+        }
+        if [1, 100, 1596].contains(&n) {
+            row(&format!("sheet to report, {n} record{}", if n == 1 { "" } else { "s" }), times);
+        }
+        lengths.push((n, times));
+    }
+
+    let positions = adds(&inputs, repetitions);
+    row("add, up to 5,000", positions.map(|p| p.iter().sum::<f64>() / 10.0));
+
+    let places: Vec<(u64, u64)> = (1..=3).flat_map(|f| (1..=5).map(move |q| (f, q))).collect();
+    let times = best(repetitions, 200, [
+        &mut || places.iter().for_each(|&(f, q)| { black_box(c::haldurap_total(*black_box(&ours), black_box(f), q)); }),
+        &mut || places.iter().for_each(|&(f, q)| { black_box(plain_total(black_box(&a), black_box(f), q)); }),
+        &mut || places.iter().for_each(|&(f, q)| { black_box(tuned_total(black_box(&b), black_box(f), q)); }),
+    ]);
+    row("total of a full run", times.map(|t| t / 15.0));
+
+    let length = c::report(ours, buffer).bytes;
+    assert_eq!([plain_report(&a, buffer_a), tuned_report(&b, buffer_b)], [length; 2]);
+    assert!(buffer == buffer_a && buffer == buffer_b, "the three reports differ");
+    let times = best(repetitions, 500, [
+        &mut || { black_box(c::report(*black_box(&ours), black_box(buffer))); },
+        &mut || { black_box(plain_report(black_box(&a), black_box(buffer_a))); },
+        &mut || { black_box(tuned_report(black_box(&b), black_box(buffer_b))); },
+    ]);
+    row(&format!("report of a full run ({} lines)", length / 97), times);
+
+    let mut fresh = tuned::ZERO;
+    let times = best(repetitions, 50, [
+        &mut || inputs.c_heads.iter().for_each(|h| { black_box(c::haldurap_open(*black_box(h))); }),
+        &mut || inputs.heads.iter().for_each(|h| { black_box(plain_open(black_box(h))); }),
+        &mut || inputs.tuned_heads.iter().for_each(|h| { black_box(tuned_open(black_box(h), black_box(&mut fresh))); }),
+    ]);
+    row("opening", times.map(|t| t / 64.0));
+
+    println!("\nadds by position in the run, ns an add");
+    for part in 0..10 {
+        let p = positions.map(|p| p[part]);
+        println!("{:<36}{:>12.1}{:>12.1}{:>12.1}{:>10.2}{:>10.2}", format!("{} to {}", part * 500 + 1, part * 500 + 500), p[0], p[1], p[2], p[0] / p[1], p[0] / p[2]);
+    }
+    println!("\nsheets by length, ns a record beyond what the head alone takes");
+    let (_, head) = lengths[0];
+    println!("{:<36}{:>12.1}{:>12.1}{:>12.1}", "the head alone, ns", head[0], head[1], head[2]);
+    for &(n, times) in &lengths[1..] {
+        let each: Vec<f64> = (0..3).map(|i| (times[i] - head[i]) / n as f64).collect();
+        println!("{n:<36}{:>12.1}{:>12.1}{:>12.1}{:>10.2}{:>10.2}", each[0], each[1], each[2], each[0] / each[1], each[0] / each[2]);
+    }
+    let load = std::fs::read_to_string("/proc/loadavg").unwrap_or_default();
+    println!("\nload after: {}", load.trim());
+}
