@@ -1,9 +1,10 @@
 """Document 01 ("COPERT II inventory core") in exact whole numbers.
 
-Written from document 01 alone; nothing here comes from the Rattle code. Each call of the first
-delivery is one function, and a refusal is its number in the table of grounds, 0 for none. The
-tally at the end has the exact, never rounded sums that demand 3 measures against.
+Written from document 01 alone; nothing here comes from the Rattle code. Each call is one function,
+and a refusal is its number in the table of grounds, 0 for none. The tally at the end has the exact,
+never rounded sums that demand 3 measures against.
 """
+import re
 from fractions import Fraction
 
 FUELS = (1, 2, 3)
@@ -236,6 +237,117 @@ def write_report(run, buffer):
     if len(buffer) < len(text):
         return 14, 0, buffer
     return 0, len(text), text + buffer[len(text):]
+
+
+def from_fuel(run, fuel, content, most, grams):
+    """The number and whole grams; `grams` gives the exact ones of F, the printed FC total."""
+    number = first([(16, not in_order(run)), (11, fuel not in FUELS), (15, content > most)])
+    return (number, 0) if number else (0, half_up(grams(total(run, fuel, FC)[1])))
+
+
+def co2(run, fuel, hydrogen):
+    """CO2; hydrogen is R, per carbon in thousandths."""
+    return from_fuel(run, fuel, hydrogen, 4000, lambda f: Fraction(44011000 * f, 12011000 + 1008 * hydrogen))
+
+
+def so2(run, fuel, sulphur):
+    """SO2; sulphur is s, in ppm by mass."""
+    return from_fuel(run, fuel, sulphur, 10000, lambda f: Fraction(2 * f * sulphur, 10**6))
+
+
+def lead(run, fuel, content):
+    """Lead; content is l, in ppm by mass."""
+    return from_fuel(run, fuel, content, 1000, lambda f: Fraction(3 * f * content, 4 * 10**6))
+
+
+def exact_float(grams):
+    """The float that is exactly the whole grams."""
+    x = float(grams)
+    assert x == grams
+    return x
+
+
+def row(run, fuel, quantity):
+    """The number and the map's row of four floats, no float where refused."""
+    number = question_number(run, fuel, quantity)
+    return number, [] if number else [exact_float(kind_total(run, fuel, quantity, kind)[1]) for kind in KINDS]
+
+
+def figure(run, fuel, quantity, kind):
+    """The number and one figure for the map: [float], or [None] where it is not given; [] where refused."""
+    number, floats = row(run, fuel, quantity)
+    if number == 0:
+        floats = [None if quantity == PM and fuel in (1, 3) else floats[KINDS.index(kind)]]
+    return number, floats
+
+
+# The widths of the numbers of line 1 (L, then T), and of the others (class, vehicles, km, shares, speeds).
+HEAD_WIDTHS = (5,) * 13
+RECORD_WIDTHS = (2, 7, 7) + (4,) * 6
+
+# A number right-justified with spaces, without leading zeros; T may have a minus, not before zero.
+PLAIN = re.compile(rb" *(0|[1-9][0-9]*)")
+SIGNED = re.compile(rb" *(0|-?[1-9][0-9]*)")
+
+
+def head_line(head):
+    """Line 1 of a sheet."""
+    trip, temps = head
+    return b"".join(b"%*d" % cell for cell in zip(HEAD_WIDTHS, (trip, *temps))) + b"\n"
+
+
+def record_line(record):
+    """The line of a record."""
+    cls, vehicles, km, shares, speeds = record
+    return b"".join(b"%*d" % cell for cell in zip(RECORD_WIDTHS, (cls, vehicles, km, *shares, *speeds))) + b"\n"
+
+
+def line_numbers(line, widths, signed):
+    """The numbers of a line without its LF, or None where its shape is wrong; `signed` are the places of T."""
+    if len(line) != sum(widths):
+        return None
+    numbers, at = [], 0
+    for place, width in enumerate(widths):
+        match = (SIGNED if place in signed else PLAIN).fullmatch(line, at, at + width)
+        if match is None:
+            return None
+        numbers.append(int(match.group(1)))
+        at += width
+    return numbers
+
+
+def read_line(run, at, line):
+    """The number of one line, counted from 1, and the run behind it."""
+    if at == 1:
+        numbers = line_numbers(line, HEAD_WIDTHS, range(1, 13))
+        return (10, run) if numbers is None else open_run((numbers[0], numbers[1:]))
+    numbers = line_numbers(line, RECORD_WIDTHS, ())
+    return (10, run) if numbers is None else add(run, (*numbers[:3], numbers[3:6], numbers[6:]))
+
+
+def read_sheet(text):
+    """The number, the line (0 where taken) and the run (of zeros where refused) of a sheet's bytes."""
+    *lines, rest = text.split(b"\n")
+    run = Run()
+    for at, line in enumerate(lines, 1):
+        number, run = read_line(run, at, line)
+        if number:
+            return number, at, Run()
+    # Bytes behind the last LF are a line of wrong shape, and so is a sheet without a head.
+    if rest or not lines:
+        return 10, len(lines) + 1, Run()
+    return 0, 0, run
+
+
+def refused_line(number, line):
+    """What the program prints for a refused sheet."""
+    return b"REFUSED%3d%6d\n" % (number, line)
+
+
+def program_text(text):
+    """What the program `report` prints for the bytes of standard input."""
+    number, line, run = read_sheet(text) if len(text) <= 65536 else (10, 1, Run())
+    return refused_line(number, line) if number else report_text(run)
 
 
 def tally(head, records):

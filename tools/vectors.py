@@ -507,19 +507,27 @@ class Answers:
         return text + " =" + "".join(" %s" % a for a in answer).replace(" \n", "\n") + "\n"
 
 
-def main():
-    folder = os.path.join(os.path.dirname(os.path.abspath(__file__)), "..", "crates", "vectors")
-    lines, answers = cases(), Answers()
-    texts = {"stdin": "".join(line + "\n" for line in lines), "stdout": "".join(answers.line(line) for line in lines)}
-    for name, text in texts.items():
+def write(program, stdin, stdout):
+    """The two files of a test program, or with --check whether they are as they stand."""
+    folder = os.path.join(os.path.dirname(os.path.abspath(__file__)), "..", "crates", program)
+    for name, data in (("stdin", stdin), ("stdout", stdout)):
         path = os.path.join(folder, name)
         if sys.argv[1:] == ["--check"]:
-            with open(path) as file:
-                if file.read() != text:
-                    sys.exit("%s is not what tools/vectors.py writes" % path)
+            with open(path, "rb") as file:
+                if file.read() != data:
+                    sys.exit("%s is not what tools/%s.py writes" % (path, program))
         else:
-            with open(path, "w") as file:
-                file.write(text)
+            with open(path, "wb") as file:
+                file.write(data)
+
+
+def write_lines(program, lines, answers):
+    """The same of lines and what they are answered."""
+    write(program, "".join(line + "\n" for line in lines).encode(), "".join(answers.line(line) for line in lines).encode())
+
+
+def main():
+    write_lines("vectors", cases(), Answers())
 
 
 if __name__ == "__main__":

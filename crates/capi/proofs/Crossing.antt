@@ -23,11 +23,17 @@ use Rattle.capi.specs.declared.RunAnswer.{RunAnswer}
 use Rattle.capi.specs.declared.GramsAnswer.{GramsAnswer}
 use Rattle.capi.specs.declared.LengthAnswer.{LengthAnswer}
 use Rattle.capi.specs.declared.MapFigure.{MapFigure}
-use Rattle.capi.specs.Answers.{runAnswer, gramsAnswer, lengthAnswer, mapFigure}
+use Rattle.capi.specs.declared.SheetAnswer.{SheetAnswer}
+use Rattle.sheet.specs.Sheet.{Outcome}
+use Rattle.capi.specs.Answers.{runAnswer, gramsAnswer, lengthAnswer, mapFigure, sheetAnswer}
 
 pub run-crosses : (n : ℕ) (run : Run) (v : Verdict) (m : ℕ) (after : Run) → n ≡ verdictNumber v → verdictNumber v ≡ m → run ≡ after
     → _≡_ {A = RunAnswer} (record { number = n; run = run }) (runAnswer m after)
 run-crosses n run v m after e h p = let z : n ≡ m = e ∙ h in cc
+
+pub sheet-crosses : (n line : ℕ) (run : Run) (v : Verdict) (a : Outcome) → n ≡ verdictNumber v → verdictNumber v ≡ a .number → line ≡ a .line → run ≡ a .run
+    → _≡_ {A = SheetAnswer} (record { number = n; line = line; run = run }) (sheetAnswer a)
+sheet-crosses n line run v a e h l p = rw (e ∙ h, l, p)
 
 module _ (p : Printed) where
   pub grams-given : (g : Grams) → p ≡ printed.Given g → _≡_ {A = GramsAnswer} (record { number = 0; grams = g }) (gramsAnswer (printedAnswer p))

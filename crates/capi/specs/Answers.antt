@@ -16,6 +16,8 @@ use Rattle.capi.specs.declared.BalanceAnswer.{BalanceAnswer}
 use Rattle.capi.specs.declared.LengthAnswer.{LengthAnswer}
 use Rattle.capi.specs.declared.MapRow.{MapRow}
 use Rattle.capi.specs.declared.MapFigure.{MapFigure}
+use Rattle.sheet.specs.Sheet.{Outcome}
+use Rattle.capi.specs.declared.SheetAnswer.{SheetAnswer}
 use Rattle.capi.specs.declared.Layout.{Layout}
 
 abbrev pub runAnswer : ℕ → Run → RunAnswer
@@ -46,6 +48,9 @@ mapRow a =
 
 abbrev pub mapFigure : FigureGiven → MapFigure
 mapFigure a = record { number = a .number; given = a .given; grams = floatAt (a .floats) 0 }
+
+abbrev pub sheetAnswer : Outcome → SheetAnswer
+sheetAnswer a = record { number = a .number; line = a .line; run = a .run }
 
 -- the version of the structs' layout, and the size of a run in bytes: 140 words of 8
 abbrev pub layoutOf : Layout

@@ -7,8 +7,10 @@ ghost use Rattle.inventory.specs.Printed.{printedAnswer, totalOf, kindOf};
 ghost use Rattle.fuel.specs.Balance.{balanceOf};
 ghost use Rattle.fuel.specs.FromFuel.{co2Of, so2Of, leadOf};
 ghost use Rattle.listing.specs.Report.{reportedAnswer, reportOf, reportBuffer};
+ghost use Rattle.sheet.specs.Sheet.{sheetOf};
+ghost use Rattle.reporting.specs.Reporting.{textOf, textBuffer};
 ghost use Rattle.map.specs.Map.{rowOf, figureAnswer, figureOf};
-ghost use Rattle.capi.specs.Answers.{runAnswer, gramsAnswer, balanceAnswer, lengthAnswer, mapRow, mapFigure, layoutOf};
+ghost use Rattle.capi.specs.Answers.{runAnswer, gramsAnswer, balanceAnswer, lengthAnswer, mapRow, mapFigure, sheetAnswer, layoutOf};
 use fuel::Balanced;
 use inventory::Head;
 use inventory::Kind;
@@ -66,6 +68,14 @@ pub struct MapFigure {
     pub number: u64,
     pub given: u64,
     pub grams: f64,
+}
+
+// A number and its line, both 0 where the sheet is taken, and a run.
+#[repr(C)]
+pub struct SheetAnswer {
+    pub number: u64,
+    pub line: usize,
+    pub run: Run,
 }
 
 // The version of the structs' layout, and the size of a run in bytes.
@@ -299,4 +309,27 @@ pub extern "C" fn haldurap_report(run: Run, buffer: &mut [u8]) -> LengthAnswer
     ensures bytes { λ r. ⌜ now (buffer .exit) ≡ reportBuffer run (now (buffer .entry)) ⌝ }
 {
     length_of(listing::write_report(run, buffer))
+}
+
+#[no_mangle]
+pub extern "C" fn haldurap_sheet(text: &[u8]) -> SheetAnswer
+    ensures { λ r. ⌜ r ≡ sheetAnswer (sheetOf (now (text .entry))) ⌝ }
+{
+    let s = sheet::read_sheet(text);
+    let v = s.verdict;
+    let n = units::verdict_number(v);
+    let run = s.run;
+    SheetAnswer {
+        number: n,
+        line: s.line,
+        run,
+    }
+}
+
+#[no_mangle]
+pub extern "C" fn haldurap_report_sheet(text: &[u8], buffer: &mut [u8]) -> LengthAnswer
+    ensures answer { λ r. ⌜ r ≡ lengthAnswer (textOf (now (text .entry)) (now (buffer .entry))) ⌝ }
+    ensures bytes { λ r. ⌜ now (buffer .exit) ≡ textBuffer (now (text .entry)) (now (buffer .entry)) ⌝ }
+{
+    length_of(reporting::report_sheet(text, buffer))
 }

@@ -1,6 +1,6 @@
 // Opening a run and adding records to it.
 ghost use mathlib.Core.Path.{_≡_};
-ghost use mathlib.Core.Bool.{cond};
+ghost use mathlib.Core.Bool.{cond, true};
 ghost use Prim.Native.Nat.{_+_, _*_, _≤_, _<_};
 ghost use Rattle.units.specs.Lists.{allBelow};
 ghost use Rattle.units.specs.Grounds.{firstFit};
@@ -8,6 +8,7 @@ ghost use Rattle.units.specs.Refusals.{verdictNumber};
 ghost use Rattle.factors.specs.Factors.{hasCold};
 ghost use Rattle.coldstart.specs.ColdStart.{coldFactor};
 ghost use Rattle.inventory.specs.Records.{monthOk, recordGrounds, sharesWrong, speedsWrong};
+ghost use Rattle.inventory.specs.Order.{inOrder};
 ghost use Rattle.inventory.specs.Limits.{RecordLimits, RunLimits};
 ghost use Rattle.inventory.specs.Opening.{zeroRun, openNumber, openRun};
 ghost use Rattle.inventory.specs.Adding.{billionths, runWith, addNumber, addRun};
@@ -39,7 +40,7 @@ fn temperatures_ok(head: Head) -> bool
 }
 
 // The run of zeros.
-fn zeros() -> Run
+pub fn zeros() -> Run
     ensures { λ r. ⌜ r ≡ zeroRun ⌝ }
 {
     Run {
@@ -138,13 +139,11 @@ fn record_verdict(rec: Record) -> Verdict
     Verdict::Taken
 }
 
-// Whether an add is refused: 16, then 3 to 8, then 9.
+// Whether an add to a run in order is refused: 3 to 8, then 9.
 fn add_verdict(run: Run, rec: Record) -> Verdict
+    requires { ⌜ inOrder run ≡ true ⌝ }
     ensures { λ v. ⌜ verdictNumber v ≡ addNumber run rec ⌝ }
 {
-    if !inventory::in_order(run) {
-        return Verdict::Refused(Refusal::RunOrder);
-    }
     let v = record_verdict(rec);
     match v {
         Verdict::Refused(x) => {
@@ -270,8 +269,9 @@ fn run_with(run: Run, rec: Record) -> Run
     r
 }
 
-// Adds a record to a run; a refused record gives back the run as it came.
-pub fn add(run: Run, rec: Record) -> Added
+// Adds a record to a run that is known to be in order; a refused record gives back the run as it came.
+pub fn add_ordered(run: Run, rec: Record) -> Added
+    requires { ⌜ inOrder run ≡ true ⌝ }
     ensures number { λ r. ⌜ verdictNumber (r .verdict) ≡ addNumber run rec ⌝ }
     ensures run { λ r. ⌜ r .run ≡ addRun run rec ⌝ }
 {
@@ -290,4 +290,18 @@ pub fn add(run: Run, rec: Record) -> Added
         verdict: Verdict::Taken,
         run: r,
     }
+}
+
+// Adds a record to a run; a refused record gives back the run as it came.
+pub fn add(run: Run, rec: Record) -> Added
+    ensures number { λ r. ⌜ verdictNumber (r .verdict) ≡ addNumber run rec ⌝ }
+    ensures run { λ r. ⌜ r .run ≡ addRun run rec ⌝ }
+{
+    if !inventory::in_order(run) {
+        return Added {
+            verdict: Verdict::Refused(Refusal::RunOrder),
+            run,
+        };
+    }
+    add_ordered(run, rec)
 }

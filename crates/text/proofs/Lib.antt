@@ -1,2 +1,4 @@
 pub mod Write
 pub mod Value
+pub mod Read
+pub mod RoundTrip

@@ -1,1 +1,3 @@
 pub mod Render
+pub mod Field
+pub mod Reading

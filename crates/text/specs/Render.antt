@@ -18,3 +18,8 @@ pad (suc w) n = pad w (n / 10) ++ (glyphOf n ∷ [])
 unfoldable pub render : ℕ → ℕ → List ℕ
 render zero n = []
 render (suc w) n = pad w (n / 10) ++ ((48 + n % 10) ∷ [])
+
+-- w bytes: a minus and the digits of n, right-justified with spaces; a minus alone for 0. Where w is too small, one byte more
+unfoldable pub renderMinus : ℕ → ℕ → List ℕ
+renderMinus zero n = 45 ∷ []
+renderMinus (suc w) n = cond (eqb n 0) (pad w 0 ++ (45 ∷ [])) (renderMinus w (n / 10) ++ ((48 + n % 10) ∷ []))

@@ -1,0 +1,209 @@
+-- One line of a sheet after the other, by places. Assumes nothing.
+use Prim.Native.Nat.{ℕ, zero, suc, _+_, _-_, _≤_, _<_}
+use mathlib.Core.Path.{_≡_, refl, sym, ap, _∙_}
+use mathlib.Core.List.{List, [], _∷_}
+use mathlib.Core.Bool.{Bool, true, false}
+use mathlib.Core.Option.{Option, none, some}
+use native.Mathlib.Omega.{arith}
+use lib.Dec.{eqb, ltb}
+use lib.IntN.{ℤ}
+use lib.ListN.{length, getD, take, drop, drop-of-length-le, length-drop}
+use lib.Seq.{drop-drop, getD-drop}
+use borrow.Author.Tests.{ltb-true, ltb-false}
+use Rattle.inventory.specs.declared.Head.{Head}
+use Rattle.inventory.specs.declared.Record.{Record}
+use Rattle.inventory.specs.declared.Run.{Run}
+use Rattle.inventory.specs.Order.{inOrder}
+use Rattle.inventory.specs.Opening.{openNumber, openRun}
+use Rattle.inventory.specs.Adding.{addNumber, addRun}
+use Rattle.accuracy.specs.Claim.{runAfter}
+use Rattle.accuracy.proofs.Whole.{every-list}
+use Rattle.sheet.specs.declared.Sheet.{Sheet}
+use Rattle.sheet.specs.declared.RecordLine.{RecordLine}
+use Rattle.sheet.specs.declared.HeadLine.{HeadLine}
+use Rattle.sheet.specs.Lines.{lines, headWidths, recordWidths, total, fields, numbersIn, numbersOf}
+use Rattle.sheet.specs.Sheet.{andThen, countsOf, headWith, headOf, recordWith, recordOf, Outcome, refusedAt, decided, fromRecords, fromHead, sheetOf}
+use Rattle.sheet.specs.Reading.{fieldsFrom, countIn, countsIn, together, recordLine, headCase, Gives}
+use Rattle.sheet.proofs.Lines.{lineLength, first-line, line-cases, too-short, no-lf, whole-line, line-numbers}
+use Rattle.sheet.proofs.Counts.{fields-from, sumList, counts-good, counts-bad}
+
+-- an answer gives what it gives, however that is written
+pub gives-by : {r : Sheet} {a b : Outcome} → a ≡ b → Gives r a → Gives r b
+gives-by e g = rw (sym e) g
+
+-- ---- a line of either kind, and what its numbers are made into
+
+module _ {A : Type 0} (make : List ℤ → Option A) (ws l : List ℕ) where
+  pub made-short : length l ≤ total ws → andThen (numbersOf ws (take (lineLength l) l)) make ≡ none
+  made-short h = rw (too-short ws l h)
+
+  pub made-no-lf : (getD l (total ws) 0 ≡ 10 → ⊥) → andThen (numbersOf ws (take (lineLength l) l)) make ≡ none
+  made-no-lf h = rw (no-lf ws l h)
+
+  pub made-none : andThen (numbersIn (fields ws l)) make ≡ none → andThen (numbersOf ws (take (lineLength l) l)) make ≡ none
+  made-none e = line-cases ws l (λ o. andThen o make ≡ none) refl e
+
+  some-numbers : (o : Option (List ℤ)) (x : A) → andThen o make ≡ some x → (zs : List ℤ) × (o ≡ some zs)
+  some-numbers none x e = let y : _≡_ {A = ℕ} 0 1 = cc in absurd (omega arith)
+  some-numbers (some zs) x e = (zs, refl)
+
+  module _ (x : A) (h : total ws < length l) (lf : getD l (total ws) 0 ≡ 10) (e : andThen (numbersIn (fields ws l)) make ≡ some x) where
+    pub made-some : andThen (numbersOf ws (take (lineLength l) l)) make ≡ some x
+    made-some =
+        let zs = some-numbers (numbersIn (fields ws l)) x e in
+        ap (λ (o : Option (List ℤ)). andThen o make) (line-numbers ws l (zs .0) h lf (zs .1) ∙ sym (zs .1)) ∙ e
+
+    pub made-length : lineLength l ≡ total ws + 1
+    made-length = let zs = some-numbers (numbersIn (fields ws l)) x e in whole-line ws l (zs .0) h lf (zs .1)
+
+-- ---- record lines
+
+abbrev pub asRecord : List ℤ → Option Record
+asRecord zs = andThen (countsOf zs) λ ns. some (recordWith ns)
+
+pub record-made : (line : List ℕ) → recordOf line ≡ andThen (numbersOf recordWidths line) asRecord
+unfolding recordOf
+record-made line = by (numbersOf recordWidths line)
+  where
+    by : (o : Option (List ℤ)) → andThen (andThen o countsOf) (λ ns. some (recordWith ns)) ≡ andThen o asRecord
+    by none = refl
+    by (some zs) = refl
+
+-- the nine numbers from a place on
+abbrev pub nine : List ℕ → ℕ → List ℕ
+nine s at = countsIn (fieldsFrom recordWidths s at)
+
+sum-nine : (s : List ℕ) (at : ℕ) → sumList (nine s at) ≡ together (recordWith (nine s at))
+unfolding sumList countsIn fieldsFrom recordWidths
+sum-nine s at = omega arith
+
+nine-fields : (s : List ℕ) (at : ℕ) → length (fieldsFrom recordWidths s at) ≤ 9
+unfolding fieldsFrom recordWidths
+nine-fields s at = omega arith
+
+none-made : (o : Option (List ℤ)) → andThen o countsOf ≡ none → andThen o asRecord ≡ none
+none-made none e = refl
+none-made (some zs) e = rw e
+
+module _ (s : List ℕ) (at : ℕ) where
+  record-bad : 10000000000 ≤ together (recordWith (nine s at)) → andThen (numbersIn (fields recordWidths (drop at s))) asRecord ≡ none
+  record-bad h =
+      rw (fields-from recordWidths s at)
+      (none-made (numbersIn (fieldsFrom recordWidths s at)) (counts-bad (fieldsFrom recordWidths s at) (nine-fields s at) (omega (arith, sum-nine s at))))
+
+  record-good : together (recordWith (nine s at)) < 10000000000 → andThen (numbersIn (fields recordWidths (drop at s))) asRecord ≡ some (recordWith (nine s at))
+  record-good h =
+      let g = counts-good (fieldsFrom recordWidths s at) (omega (arith, sum-nine s at)) in
+      rw (fields-from recordWidths s at, g .1, g .2)
+
+  module _ (run : Run) (n : ℕ) (h : at < length s) where
+    first : lines (drop at s) ≡ take (lineLength (drop at s)) (drop at s) ∷ lines (drop (lineLength (drop at s)) (drop at s))
+    first = first-line (drop at s) (rw length-drop (omega arith))
+
+    by-none : andThen (numbersOf recordWidths (take (lineLength (drop at s)) (drop at s))) asRecord ≡ none → fromRecords run n (lines (drop at s)) ≡ refusedAt 10 n
+    unfolding fromRecords decided
+    by-none e = rw (first, record-made (take (lineLength (drop at s)) (drop at s)), e)
+
+    pub cut-short : length s < at + 41 → fromRecords run n (lines (drop at s)) ≡ refusedAt 10 n
+    unfolding total recordWidths
+    cut-short k = by-none (made-short asRecord recordWidths (drop at s) (rw length-drop (omega arith)))
+
+    pub lf-missing : (getD s (at + 40) 0 ≡ 10 → ⊥) → fromRecords run n (lines (drop at s)) ≡ refusedAt 10 n
+    unfolding total recordWidths
+    lf-missing k = by-none (made-no-lf asRecord recordWidths (drop at s) (rw getD-drop k))
+
+    pub misread : 10000000000 ≤ together (recordWith (nine s at)) → fromRecords run n (lines (drop at s)) ≡ refusedAt 10 n
+    misread k = by-none (made-none asRecord recordWidths (drop at s) (record-bad k))
+
+    module _ (k : at + 40 < length s) (lf : getD s (at + 40) 0 ≡ 10) (good : together (recordWith (nine s at)) < 10000000000) where
+      there : (total recordWidths < length (drop at s)) × (getD (drop at s) (total recordWidths) 0 ≡ 10)
+      unfolding total recordWidths
+      there = (rw length-drop (omega arith), rw getD-drop lf)
+
+      behind : drop (lineLength (drop at s)) (drop at s) ≡ drop (at + 41) s
+      unfolding total recordWidths
+      behind =
+          rw (made-length asRecord recordWidths (drop at s) (recordWith (nine s at)) (there .0) (there .1) (record-good good))
+          (drop-drop 41 at s)
+
+      pub read : fromRecords run n (lines (drop at s))
+          ≡ decided (addNumber run (recordWith (nine s at))) n (fromRecords (addRun run (recordWith (nine s at))) (n + 1) (lines (drop (at + 41) s)))
+      unfolding fromRecords
+      read =
+          rw (
+            first,
+            record-made (take (lineLength (drop at s)) (drop at s)),
+            made-some asRecord recordWidths (drop at s) (recordWith (nine s at)) (there .0) (there .1) (record-good good),
+            behind,
+          )
+
+-- what `record_at` gives
+module _ (r : RecordLine) (ns : List ℕ) (e : r ≡ recordLine ns) where
+  pub not-ok : r .ok ≡ false → 10000000000 ≤ together (recordWith ns)
+  not-ok h = ltb-false _ _ (sym (ap (λ (q : RecordLine). q .ok) e) ∙ h)
+
+  pub is-ok : r .ok ≡ true → together (recordWith ns) < 10000000000
+  is-ok h = ltb-true _ _ (sym (ap (λ (q : RecordLine). q .ok) e) ∙ h)
+
+  pub its-record : r .rec ≡ recordWith ns
+  its-record = ap (λ (q : RecordLine). q .rec) e
+
+pub decided-taken : (number n : ℕ) (rest : Outcome) → number ≡ 0 → decided number n rest ≡ rest
+unfolding decided
+decided-taken number n rest e = rw e
+
+pub decided-refused : (number m n : ℕ) (rest : Outcome) → number ≡ m → eqb m 0 ≡ false → decided number n rest ≡ refusedAt m n
+unfolding decided
+decided-refused number m n rest e h = rw (e, h)
+
+pub at-last : (run : Run) (n : ℕ) (s : List ℕ) (at : ℕ) → length s ≤ at → fromRecords run n (lines (drop at s)) ≡ record { number = 0; line = 0; run = run }
+unfolding fromRecords lines
+at-last run n s at h = rw (drop-of-length-le s h)
+
+-- ---- the head line
+
+-- the empty sheet has none
+head-some : (s : List ℕ) → (0 < length s → sheetOf s ≡ refusedAt 10 1) → sheetOf s ≡ refusedAt 10 1
+unfolding sheetOf fromHead lines
+head-some [] f = refl
+head-some (b ∷ bs) f = f (omega arith)
+
+module _ (s : List ℕ) where
+  head-none : 0 < length s → andThen (numbersOf headWidths (take (lineLength s) s)) headWith ≡ none → sheetOf s ≡ refusedAt 10 1
+  unfolding sheetOf fromHead decided headOf
+  head-none h e = rw (first-line s h, e)
+
+  pub head-short : length s < 66 → sheetOf s ≡ refusedAt 10 1
+  unfolding total headWidths
+  head-short k = head-some s (λ h. head-none h (made-short headWith headWidths s (omega arith)))
+
+  pub head-no-lf : 65 < length s → (getD s 65 0 ≡ 10 → ⊥) → sheetOf s ≡ refusedAt 10 1
+  unfolding total headWidths
+  head-no-lf k h = head-none (omega arith) (made-no-lf headWith headWidths s h)
+
+  pub head-misread : 65 < length s → andThen (numbersIn (fields headWidths s)) headWith ≡ none → sheetOf s ≡ refusedAt 10 1
+  head-misread k e = head-none (omega arith) (made-none headWith headWidths s e)
+
+  pub head-read : (head : Head) → 65 < length s → getD s 65 0 ≡ 10 → andThen (numbersIn (fields headWidths s)) headWith ≡ some head
+      → sheetOf s ≡ decided (openNumber head) 1 (fromRecords (openRun head) 2 (lines (drop 66 s)))
+  unfolding sheetOf fromHead headOf total headWidths
+  head-read head k lf e =
+      rw (
+        first-line s (omega arith),
+        made-some headWith headWidths s head k lf e,
+        made-length headWith headWidths s head k lf e,
+      )
+
+-- what `head_at` gives
+pub no-head : (r : HeadLine) (o : Option Head) → r ≡ headCase o → r .ok ≡ false → o ≡ none
+no-head r none e h = refl
+no-head r (some head) e h = let y : _≡_ {A = Bool} true false = sym (ap (λ (q : HeadLine). q .ok) e) ∙ h in let z : _≡_ {A = ℕ} 0 1 = cc in absurd (omega arith)
+
+pub its-head : (r : HeadLine) (o : Option Head) → r ≡ headCase o → r .ok ≡ true → o ≡ some (r .head)
+its-head r none e h = let y : _≡_ {A = Bool} false true = sym (ap (λ (q : HeadLine). q .ok) e) ∙ h in let z : _≡_ {A = ℕ} 0 1 = cc in absurd (omega arith)
+its-head r (some head) e h = ap (λ (q : HeadLine). some (q .head)) (sym e)
+
+-- a run that opening gave is in order
+pub opened-order : (head : Head) → openNumber head ≡ 0 → inOrder (openRun head) ≡ true
+unfolding runAfter
+opened-order head z = every-list head z .list [] .ordered

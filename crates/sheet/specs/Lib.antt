@@ -1,0 +1,5 @@
+pub mod Lines
+pub mod Sheet
+pub mod Rendering
+pub mod Claim
+pub mod Reading

@@ -1,0 +1,73 @@
+-- What the inner functions of the sheet promise.
+-- Assumes nothing.
+use Prim.Native.Nat.{ℕ, _+_}
+use mathlib.Core.Path.{_≡_}
+use mathlib.Core.Bool.{true, false}
+use mathlib.Core.List.{List, [], _∷_}
+use mathlib.Core.Option.{Option, none, some}
+use lib.Dec.{ltb}
+use lib.IntN.{ℤ, pos}
+use lib.ListN.{take, drop, replicate}
+use Rattle.units.specs.Refusals.{verdictNumber}
+use Rattle.text.specs.declared.Field.{Field}
+use Rattle.text.specs.declared.Field.the-variants.{Plus, Minus, Bad}
+use Rattle.text.specs.Field.{parse}
+use Rattle.inventory.specs.declared.Head.{Head}
+use Rattle.inventory.specs.declared.Record.{Record}
+use Rattle.sheet.specs.declared.Signed.{Signed}
+use Rattle.sheet.specs.declared.Signed.the-variants as signed
+use Rattle.sheet.specs.declared.Temps.{Temps}
+use Rattle.sheet.specs.declared.HeadLine.{HeadLine}
+use Rattle.sheet.specs.declared.RecordLine.{RecordLine}
+use Rattle.sheet.specs.declared.Sheet.{Sheet}
+use Rattle.sheet.specs.Lines.{numberIn, numbersIn}
+use Rattle.sheet.specs.Sheet.{andThen, headWith, recordWith, Outcome}
+
+-- the bytes from a place on cut into fields
+unfoldable pub fieldsFrom : List ℕ → List ℕ → ℕ → List (List ℕ)
+fieldsFrom [] bytes at = []
+fieldsFrom (w ∷ ws) bytes at = take w (drop at bytes) ∷ fieldsFrom ws bytes (at + w)
+
+-- a number without a minus; 10^10, more than nine numbers together, where there is none
+abbrev pub countOr : Field → ℕ
+countOr (Plus n) = n
+countOr (Minus n) = 10000000000
+countOr Bad = 10000000000
+
+unfoldable pub countIn : List ℕ → ℕ
+countIn field = countOr (parse field)
+
+unfoldable pub countsIn : List (List ℕ) → List ℕ
+countsIn [] = []
+countsIn (f ∷ fs) = countIn f ∷ countsIn fs
+
+-- the numbers of a record together
+abbrev pub together : Record → ℕ
+together rec =
+    rec .class + rec .vehicles + rec .km + rec .shares .urban + rec .shares .rural + rec .shares .highway
+    + rec .speeds .urban .0 + rec .speeds .rural .0 + rec .speeds .highway .0
+
+-- a record, and whether its nine fields are numbers
+abbrev pub recordLine : List ℕ → RecordLine
+recordLine ns = record { ok = ltb (together (recordWith ns)) 10000000000; rec = recordWith ns }
+
+-- the cases of a number with a sign
+abbrev pub signedCase : Option ℤ → Signed
+signedCase (some z) = signed.Value z
+signedCase none = signed.Bad
+
+-- temperatures, and whether their fields are numbers
+abbrev pub tempsCase : Option (List ℤ) → Temps
+tempsCase (some ts) = record { ok = true; temps = ts }
+tempsCase none = record { ok = false; temps = replicate 12 (pos 0) }
+
+-- a head, and whether its fields are numbers
+abbrev pub headCase : Option Head → HeadLine
+headCase (some head) = record { ok = true; head = head }
+headCase none = record { ok = false; head = record { trip = 0; temps = replicate 12 (pos 0) } }
+
+-- the answer of a sheet is an outcome
+pub record Gives (r : Sheet) (outcome : Outcome) : Type 0 where
+  pub number : verdictNumber (r .verdict) ≡ outcome .number
+  pub line : r .line ≡ outcome .line
+  pub run : r .run ≡ outcome .run

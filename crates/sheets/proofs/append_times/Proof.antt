@@ -1,0 +1,48 @@
+-- `sheets::append_times` is safe and ends. Assumes nothing.
+use mathlib.Core.Path.{_≡_}
+use Prim.Native.Nat.{_≤_, _-_}
+use lib.ListN.{length}
+use borrow.Author.Needs.{needs}
+use Rattle.sheets.proofs.append_times.Statement.{statement}
+use Rattle.sheets.proofs.append_times.Tie as tie
+
+abbrev Inv-loop : tie.InvT-loop
+Inv-loop b from n bytes₀ len times to₀ i₀ bytes to i = (i ≤ times) × (length bytes ≡ length bytes₀)
+
+abbrev μ-loop : tie.MeasureT-loop
+μ-loop b from n bytes₀ len times to₀ i₀ bytes to i = times - i
+
+loop-holds : tie.Need-loop-holds Inv-loop μ-loop
+loop-holds c = search needs
+
+append-requires : tie.Need-append-requires Inv-loop μ-loop
+append-requires c κs = search needs
+
+add-i : tie.Need-add-i Inv-loop μ-loop
+add-i c = search needs
+
+loop-less : tie.Need-loop-less Inv-loop μ-loop
+loop-less c = search needs
+
+loop-again : tie.Need-loop-again Inv-loop μ-loop
+loop-again c = search needs
+
+same-length : tie.Need-same-length Inv-loop μ-loop
+same-length c = search needs
+
+returns : tie.Need-returns Inv-loop μ-loop
+returns c = search needs
+
+pub append-times-spec : {M : Type 1} → statement M
+append-times-spec =
+    tie.close
+    (tie.spec
+    Inv-loop
+    μ-loop
+    loop-holds
+    append-requires
+    add-i
+    loop-less
+    loop-again
+    same-length
+    returns)
