@@ -118,15 +118,8 @@ fn tuned_open(head: &tuned::Head, run: &mut tuned::Run) -> u64 {
     tuned::open(head, run)
 }
 
-#[cfg(sheets)]
 fn our_sheet(text: &[u8], buffer: &mut [u8]) -> usize {
     c::report_sheet(text, buffer).bytes
-}
-
-/// The archive's sheet calls do not exist yet.
-#[cfg(not(sheets))]
-fn our_sheet(_: &[u8], _: &mut [u8]) -> usize {
-    0
 }
 
 // ---- Measuring
@@ -148,9 +141,7 @@ fn best(repetitions: usize, times: usize, mut work: [&mut dyn FnMut(); 3]) -> [f
 
 fn row(name: &str, times: [f64; 3]) {
     let [ours, a, b] = times;
-    let verdict = if ours == 0.0 {
-        "no such call in the archive"
-    } else if ours > a {
+    let verdict = if ours > a {
         "SLOWER THAN (a)"
     } else if ours <= 1.2 * b {
         "within 1.2 of (b)"
@@ -233,7 +224,6 @@ fn main() {
     println!("{:<36}{:>12}{:>12}{:>12}{:>10}{:>10}", "", "archive", "(a)", "(b)", "to (a)", "to (b)");
 
     // sheet text to report text
-    let sheets = cfg!(sheets);
     let mut buffers = [[0u8; c::REPORT_BYTES]; 3];
     let [buffer, buffer_a, buffer_b] = &mut buffers;
     let mut lengths = Vec::new();
@@ -241,15 +231,12 @@ fn main() {
         let text = sheet_text(&inputs, n);
         let want = [plain_sheet(&text, buffer_a), tuned_sheet(&text, buffer_b)];
         assert!(want[0] == want[1] && buffer_a == buffer_b, "sheets differ at {n} records");
-        assert!(!sheets || (our_sheet(&text, buffer) == want[0] && buffer == buffer_a), "the archive's sheet differs at {n} records");
-        let mut times = best(repetitions, 1 + 2000 / (n + 1), [
+        assert!(our_sheet(&text, buffer) == want[0] && buffer == buffer_a, "the archive's sheet differs at {n} records");
+        let times = best(repetitions, 1 + 2000 / (n + 1), [
             &mut || { black_box(our_sheet(black_box(&text), black_box(buffer))); },
             &mut || { black_box(plain_sheet(black_box(&text), black_box(buffer_a))); },
             &mut || { black_box(tuned_sheet(black_box(&text), black_box(buffer_b))); },
         ]);
-        if !sheets {
-            times[0] = 0.0;
-        }
         if [1, 100, 1596].contains(&n) {
             row(&format!("sheet to report, {n} record{}", if n == 1 { "" } else { "s" }), times);
         }

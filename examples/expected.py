@@ -17,6 +17,7 @@ for record in FLEET:
     assert number == 0
 print("records:", run.count)
 sys.stdout.write(reference.report_text(run).decode("ascii"))
+print("from a sheet: the same")
 for fuel, sold in ((1, 1000), (2, 4400), (3, 210)):
     for quantity in reference.QUANTITIES:
         number, k, grams = reference.balance(run, fuel, quantity, sold)

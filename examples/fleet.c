@@ -4,6 +4,7 @@
 #include <inttypes.h>
 #include <stdio.h>
 #include <stdlib.h>
+#include <string.h>
 
 #include "haldurap.h"
 
@@ -48,6 +49,23 @@ int main(void) {
     haldurap_length_answer written = haldurap_report(run, report, sizeof report);
     stop_if(written.number, "report");
     fwrite(report, 1, written.bytes, stdout);
+
+    /* The same head and fleet as the text of a sheet give the same report. */
+    char sheet[HALDURAP_HEAD_BYTES + 3 * HALDURAP_RECORD_BYTES + 1];
+    int length = sprintf(sheet, "%5" PRIu64, head.trip);
+    for (int month = 0; month < 12; month++) length += sprintf(sheet + length, "%5" PRId64, head.temps[month]);
+    length += sprintf(sheet + length, "\n");
+    for (size_t i = 0; i < sizeof fleet / sizeof fleet[0]; i++) {
+        haldurap_record r = fleet[i];
+        length += sprintf(sheet + length, "%2" PRIu64 "%7" PRIu64 "%7" PRIu64 "%4" PRIu64 "%4" PRIu64 "%4" PRIu64 "%4" PRIu64 "%4" PRIu64 "%4" PRIu64 "\n",
+                          r.vehicle_class, r.vehicles, r.km, r.shares.urban, r.shares.rural, r.shares.highway,
+                          r.speeds.urban, r.speeds.rural, r.speeds.highway);
+    }
+    uint8_t again[HALDURAP_REPORT_BYTES];
+    haldurap_length_answer read = haldurap_report_sheet((const uint8_t *)sheet, (size_t)length, again, sizeof again);
+    stop_if(read.number, "report_sheet");
+    int same = read.bytes == written.bytes && memcmp(again, report, read.bytes) == 0;
+    printf("from a sheet: %s\n", same ? "the same" : "another report");
 
     for (uint64_t fuel = HALDURAP_GASOLINE; fuel <= HALDURAP_LPG; fuel++) {
         for (uint64_t quantity = HALDURAP_CO; quantity <= HALDURAP_FC; quantity++) {

@@ -21,6 +21,13 @@ def main():
         run = haldurap.add(run, part)
     print("records:", run.count)
     sys.stdout.write(haldurap.report(run).decode("ascii"))
+    # The same head and fleet as the text of a sheet give the same report.
+    sheet = "%5d" % 120 + "%5d" % 100 * 12 + "\n"
+    for r in FLEET:
+        roads = [getattr(part, road) for part in (r.shares, r.speeds) for road in ("urban", "rural", "highway")]
+        sheet += "%2d%7d%7d" % (r.vehicle_class, r.vehicles, r.km) + "".join("%4d" % n for n in roads) + "\n"
+    same = haldurap.report_sheet(sheet.encode("ascii")) == haldurap.report(run)
+    print("from a sheet:", "the same" if same else "another report")
     for fuel, sold in SOLD.items():
         for name, quantity in zip(NAMES, haldurap.QUANTITIES):
             k, grams = haldurap.balance(run, fuel, quantity, sold)

@@ -47,6 +47,18 @@ fn main() -> Result<(), String> {
     let length = taken(written.number, written.bytes)?;
     print!("{}", str::from_utf8(&buffer[..length]).expect("a report is ASCII"));
 
+    // The same head and fleet as the text of a sheet give the same report.
+    let mut text = format!("{:5}{}\n", 120, "  100".repeat(12));
+    for r in fleet {
+        let Record { class, vehicles, km, shares, speeds } = r;
+        text += &format!("{class:2}{vehicles:7}{km:7}{:4}{:4}{:4}", shares.urban, shares.rural, shares.highway);
+        text += &format!("{:4}{:4}{:4}\n", speeds.urban, speeds.rural, speeds.highway);
+    }
+    let mut again = [0; REPORT_BYTES];
+    let read = report_sheet(text.as_bytes(), &mut again);
+    let same = taken(read.number, again[..read.bytes] == buffer[..length])?;
+    println!("from a sheet: {}", if same { "the same" } else { "another report" });
+
     for fuel in 1..=3 {
         let sold = SOLD[fuel as usize - 1];
         for (name, quantity) in NAMES.iter().zip(1..) {

@@ -3,6 +3,7 @@
 # not what the independent calculation gives.
 set -eu
 cd "$(dirname "$0")/.."
+mkdir -p target
 rt staticlib capi > target/staticlib.log 2>&1 || { cat target/staticlib.log; exit 1; }
 archive=target/staticlib/libcapi.a
 gcc -std=c11 -O2 -Wall -Wextra -Wpedantic -Werror -Iinclude -o target/fleet_c examples/fleet.c "$archive"

@@ -8,7 +8,7 @@
    ------------------
    - Everything passes by value. A call changes nothing of the caller's but the buffer that is
      lent to it; a new run comes back in the answer. Nothing is allocated, nothing static is
-     written, so calls from many threads need no lock. A call uses less than 8 KB of stack, the
+     written, so calls from many threads need no lock. A call uses less than 16 KB of stack, the
      arguments included.
    - Every answer begins with a number: 0 if the call did what was asked, else the ground of the
      refusal (the table below). In a refused answer every other value is 0, also the floats,

@@ -79,9 +79,9 @@ fn limit(i: usize, count: u64) -> u64 {
 
 // ---- Counting
 
-const CALLS: [&str; 22] = [
+const CALLS: [&str; 20] = [
     "layout", "open", "add", "total", "urban", "rural", "highway", "cold", "balance", "co2", "so2", "lead", "map_row",
-    "figure_urban", "figure_rural", "figure_highway", "figure_cold", "report", "sheet", "report_sheet", "not given", "bytes",
+    "figure_urban", "figure_rural", "figure_highway", "figure_cold", "report", "sheet", "report_sheet",
 ];
 const LAYOUT: usize = 0;
 const OPEN: usize = 1;
@@ -100,7 +100,7 @@ const REPORT_SHEET: usize = 19;
 
 struct Held {
     /// By call and number.
-    tried: [[u64; 17]; 22],
+    tried: [[u64; 17]; CALLS.len()],
     not_given: u64,
     buffers: u64,
     out_of_order: u64,
@@ -337,7 +337,6 @@ fn out_of_order(held: &mut Held, r: &mut Random, run: &c::Run) {
 
 // ---- Sheets
 
-#[cfg(sheets)]
 fn ask_sheet(held: &mut Held, r: &mut Random, text: &[u8], edit: usize) {
     let kept = text.to_vec();
     let theirs = plain::sheet(text);
@@ -365,7 +364,6 @@ fn ask_sheet(held: &mut Held, r: &mut Random, text: &[u8], edit: usize) {
     }
 }
 
-#[cfg(sheets)]
 fn sheets(held: &mut Held, r: &mut Random, times: u64) {
     for i in 0..times {
         let edit = i as usize % random::EDITS.len();
@@ -408,11 +406,6 @@ fn sheets(held: &mut Held, r: &mut Random, times: u64) {
     }
 }
 
-#[cfg(not(sheets))]
-fn sheets(_: &mut Held, _: &mut Random, _: u64) {
-    println!("The archive has no haldurap_sheet: no sheets tried.");
-}
-
 // ---- The numbers that document 01 prints
 
 fn printed_numbers(held: &mut Held) {
@@ -443,7 +436,6 @@ fn printed_numbers(held: &mut Held) {
     assert_eq!(plain::sheet_report(b""), "REFUSED 10     1\n");
     let mut r = Random(1);
     ask_all(held, &mut r, ours, &theirs);
-    #[cfg(sheets)]
     ask_sheet(held, &mut r, &sheet, 0);
 }
 
@@ -454,7 +446,7 @@ fn main() {
     let part = if small { 100 } else { 1 };
     let mut r = Random(seed);
     let mut held =
-        Held { tried: [[0; 17]; 22], not_given: 0, buffers: 0, out_of_order: 0, edits: [[0; 17]; random::EDITS.len()], differences: 0 };
+        Held { tried: [[0; 17]; CALLS.len()], not_given: 0, buffers: 0, out_of_order: 0, edits: [[0; 17]; random::EDITS.len()], differences: 0 };
     println!("seed {seed}{}", if small { ", a hundredth" } else { "" });
 
     let layout = c::haldurap_layout();
@@ -538,12 +530,10 @@ fn main() {
         tried.iter().for_each(|n| print!("{:>9}", if *n == 0 { "-".into() } else { n.to_string() }));
         println!();
     }
-    if held.of(SHEET) > 0 {
-        println!("\nsheets by what was done to them, and by number:");
-        for (edit, tried) in held.edits.iter().enumerate() {
-            let numbers: Vec<String> = (0..=16).filter(|&n| tried[n] > 0).map(|n| format!("{n}: {}", tried[n])).collect();
-            println!("{:>40}  {}", random::EDITS[edit], numbers.join(", "));
-        }
+    println!("\nsheets by what was done to them, and by number:");
+    for (edit, tried) in held.edits.iter().enumerate() {
+        let numbers: Vec<String> = (0..=16).filter(|&n| tried[n] > 0).map(|n| format!("{n}: {}", tried[n])).collect();
+        println!("{:>40}  {}", random::EDITS[edit], numbers.join(", "));
     }
     println!("\ndifferences: {}", held.differences);
     std::process::exit((held.differences > 0) as i32);

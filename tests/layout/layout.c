@@ -18,18 +18,21 @@ static void same(uint64_t found, uint64_t wanted, const char *what, int i) {
 }
 
 #define SIZE(type, bytes) same(sizeof(type), bytes, "sizeof(" #type ")", 0)
-#define PLACE(type, field, offset) same(offsetof(type, field), offset, "offsetof(" #type ", " #field ")", 0)
+#define PLACE(type, field, offset) FIELD(type, field, offset, 8)
+#define FIELD(type, field, offset, bytes) ( \
+        same(offsetof(type, field), offset, "offsetof(" #type ", " #field ")", 0), \
+        same(sizeof(((type *)0)->field), bytes, "size of " #type "." #field, 0))
 
 /* The header's own comments, as numbers. */
 static void as_documented(void) {
-    SIZE(haldurap_head, 104), PLACE(haldurap_head, trip, 0), PLACE(haldurap_head, temps, 8);
+    SIZE(haldurap_head, 104), PLACE(haldurap_head, trip, 0), FIELD(haldurap_head, temps, 8, 96);
     SIZE(haldurap_shares, 24), PLACE(haldurap_shares, urban, 0), PLACE(haldurap_shares, rural, 8), PLACE(haldurap_shares, highway, 16);
     SIZE(haldurap_speeds, 24), PLACE(haldurap_speeds, urban, 0), PLACE(haldurap_speeds, rural, 8), PLACE(haldurap_speeds, highway, 16);
     SIZE(haldurap_record, 72), PLACE(haldurap_record, vehicle_class, 0), PLACE(haldurap_record, vehicles, 8), PLACE(haldurap_record, km, 16);
-    PLACE(haldurap_record, shares, 24), PLACE(haldurap_record, speeds, 48);
-    SIZE(haldurap_run, 1120), PLACE(haldurap_run, trip, 0), PLACE(haldurap_run, x, 8), PLACE(haldurap_run, count, 128);
-    PLACE(haldurap_run, km, 136), PLACE(haldurap_run, grams, 160), PLACE(haldurap_run, rests, 640);
-    SIZE(haldurap_run_answer, 1128), PLACE(haldurap_run_answer, number, 0), PLACE(haldurap_run_answer, run, 8);
+    FIELD(haldurap_record, shares, 24, 24), FIELD(haldurap_record, speeds, 48, 24);
+    SIZE(haldurap_run, 1120), PLACE(haldurap_run, trip, 0), FIELD(haldurap_run, x, 8, 120), PLACE(haldurap_run, count, 128);
+    FIELD(haldurap_run, km, 136, 24), FIELD(haldurap_run, grams, 160, 480), FIELD(haldurap_run, rests, 640, 480);
+    SIZE(haldurap_run_answer, 1128), PLACE(haldurap_run_answer, number, 0), FIELD(haldurap_run_answer, run, 8, 1120);
     SIZE(haldurap_grams_answer, 16), PLACE(haldurap_grams_answer, number, 0), PLACE(haldurap_grams_answer, grams, 8);
     SIZE(haldurap_balance_answer, 24), PLACE(haldurap_balance_answer, number, 0), PLACE(haldurap_balance_answer, k, 8);
     PLACE(haldurap_balance_answer, grams, 16);
@@ -39,7 +42,7 @@ static void as_documented(void) {
     SIZE(haldurap_figure_answer, 24), PLACE(haldurap_figure_answer, number, 0), PLACE(haldurap_figure_answer, given, 8);
     PLACE(haldurap_figure_answer, grams, 16);
     SIZE(haldurap_sheet_answer, 1136), PLACE(haldurap_sheet_answer, number, 0), PLACE(haldurap_sheet_answer, line, 8);
-    PLACE(haldurap_sheet_answer, run, 16);
+    FIELD(haldurap_sheet_answer, run, 16, 1120);
     SIZE(haldurap_layout_answer, 16), PLACE(haldurap_layout_answer, version, 0), PLACE(haldurap_layout_answer, size, 8);
 }
 
@@ -78,33 +81,42 @@ static void sizes_written(haldurap_run run) {
     WRITTEN(haldurap_figure_answer, haldurap_figure_rural, (void *, haldurap_run, uint64_t, uint64_t), run, 1, 1);
     WRITTEN(haldurap_figure_answer, haldurap_figure_highway, (void *, haldurap_run, uint64_t, uint64_t), run, 1, 1);
     WRITTEN(haldurap_figure_answer, haldurap_figure_cold, (void *, haldurap_run, uint64_t, uint64_t), run, 1, 1);
-#ifdef SHEETS
     WRITTEN(haldurap_sheet_answer, haldurap_sheet, (void *, const uint8_t *, size_t), (const uint8_t *)"x", 1);
-#endif
 }
 #else
 static void sizes_written(haldurap_run run) { (void)run; }
 #endif
+
+/* Beyond the lower half of a word. */
+#define HIGH (1ull << 32)
 
 /* Each field of a head and a record: a bad value is refused with its own number, a good one has its own effect. */
 static void inputs(haldurap_run run) {
     haldurap_head h = head;
     h.trip = 9;
     same(haldurap_open(h).number, HALDURAP_TRIP_LENGTH, "head.trip", 0);
+    h.trip = HIGH + 120;
+    same(haldurap_open(h).number, HALDURAP_TRIP_LENGTH, "head.trip", 1);
     for (int i = 0; i < 12; i++) {
         h = head, h.temps[i] = -301;
         same(haldurap_open(h).number, HALDURAP_TEMPERATURE, "head.temps", i);
+        h = head, h.temps[i] = (int64_t)HIGH + 100;
+        same(haldurap_open(h).number, HALDURAP_TEMPERATURE, "head.temps", i);
     }
     haldurap_record r;
-    r = record, r.vehicle_class = 0, same(haldurap_add(run, r).number, HALDURAP_CLASS, "record.vehicle_class", 0);
-    r = record, r.vehicles = 0, same(haldurap_add(run, r).number, HALDURAP_VEHICLES, "record.vehicles", 0);
-    r = record, r.km = 0, same(haldurap_add(run, r).number, HALDURAP_KILOMETRES, "record.km", 0);
-    r = record, r.shares.urban = 41, same(haldurap_add(run, r).number, HALDURAP_SHARES, "record.shares.urban", 0);
-    r = record, r.shares.rural = 41, same(haldurap_add(run, r).number, HALDURAP_SHARES, "record.shares.rural", 0);
-    r = record, r.shares.highway = 21, same(haldurap_add(run, r).number, HALDURAP_SHARES, "record.shares.highway", 0);
-    r = record, r.speeds.urban = 9, same(haldurap_add(run, r).number, HALDURAP_SPEED, "record.speeds.urban", 0);
-    r = record, r.speeds.rural = 9, same(haldurap_add(run, r).number, HALDURAP_SPEED, "record.speeds.rural", 0);
-    r = record, r.speeds.highway = 9, same(haldurap_add(run, r).number, HALDURAP_SPEED, "record.speeds.highway", 0);
+#define REFUSED(field, wrong, why) do { \
+        r = record, r.field = wrong, same(haldurap_add(run, r).number, why, "record." #field, 0); \
+        r = record, r.field += HIGH, same(haldurap_add(run, r).number, why, "record." #field, 1); \
+    } while (0)
+    REFUSED(vehicle_class, 0, HALDURAP_CLASS);
+    REFUSED(vehicles, 0, HALDURAP_VEHICLES);
+    REFUSED(km, 0, HALDURAP_KILOMETRES);
+    REFUSED(shares.urban, 41, HALDURAP_SHARES);
+    REFUSED(shares.rural, 41, HALDURAP_SHARES);
+    REFUSED(shares.highway, 21, HALDURAP_SHARES);
+    REFUSED(speeds.urban, 9, HALDURAP_SPEED);
+    REFUSED(speeds.rural, 9, HALDURAP_SPEED);
+    REFUSED(speeds.highway, 9, HALDURAP_SPEED);
     /* the whole distance on one road: CO of class 2 at 20, 60 and 100 km/h */
     r = record, r.shares = (haldurap_shares){100, 0, 0};
     same(haldurap_add(run, r).run.grams[0], 15095000, "urban grams", 0);
@@ -185,7 +197,6 @@ static void answers(haldurap_run run) {
     same(haldurap_figure_cold(run, 1, 6).number, HALDURAP_FUEL_OR_QUANTITY, "figure_answer.number", 2);
     haldurap_layout_answer y = haldurap_layout();
     same(y.version, HALDURAP_LAYOUT, "layout_answer.version", 0), same(y.size, sizeof(haldurap_run), "layout_answer.size", 0);
-#ifdef SHEETS
     static const char text[] = "  120  100  100  100  100  100  100  100  100  100  100  100  100\n"
                                " 2   1000  10000  40  40  20  20  60 100\n"
                                " 0   1000  10000  40  40  20  20  60 100\n";
@@ -194,7 +205,6 @@ static void answers(haldurap_run run) {
     same(memcmp(&s.run, &run, sizeof run), 0, "sheet_answer.run", 0);
     s = haldurap_sheet((const uint8_t *)text, 148);
     same(s.number, HALDURAP_CLASS, "sheet_answer.number", 1), same(s.line, 3, "sheet_answer.line", 1);
-#endif
 }
 
 int main(void) {

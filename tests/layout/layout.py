@@ -43,6 +43,7 @@ def as_documented():
     for struct, (size, offsets) in DOCUMENTED.items():
         same(sizeof(struct), size, "size of " + struct.__name__)
         same({name: getattr(struct, name).offset for name, _ in struct._fields_}, offsets, struct.__name__)
+        same(sum(getattr(struct, name).size for name, _ in struct._fields_), size, "fields of " + struct.__name__)
 
 
 def head():
@@ -64,25 +65,13 @@ def changed(run, **fields):
     return run
 
 
-def has_sheets():
-    try:
-        h.call("sheet")
-    except AttributeError:
-        return False
-    return True
-
-
 def sizes_written(run):
     """The place of an answer of more than 16 bytes is a first, hidden argument: handed in openly, twice with other bytes
     beforehand, it shows which bytes the archive writes."""
     if platform.machine() != "x86_64" or os.name != "posix":
         return
-    values = {"open": (head(),), "add": (run, record()), "balance": (run, 1, 1, 1000)}
-    names = ["open", "add", "balance", "map_row", "figure_urban", "figure_rural", "figure_highway", "figure_cold"]
-    if has_sheets():
-        names.append("sheet")
-        values["sheet"] = ((c_uint8 * 1)(120), 1)
-    for name in names:
+    values = {"open": (head(),), "add": (run, record()), "balance": (run, 1, 1, 1000), "sheet": ((c_uint8 * 1)(120), 1)}
+    for name in ("open", "add", "balance", "map_row", "figure_urban", "figure_rural", "figure_highway", "figure_cold", "sheet"):
         parameters, answer = h.CALLS[name]
         raw = ctypes.CFUNCTYPE(c_void_p, c_void_p, *parameters)(("haldurap_" + name, h._lib))
         places = [(c_uint8 * 4096)(*[byte] * 4096) for byte in (0, 255)]
@@ -93,13 +82,19 @@ def sizes_written(run):
 
 def inputs(run):
     """Each field of a head and a record: a bad value is refused with its own number, a good one has its own effect."""
-    same(h.call("open")(h.head(9, [100] * 12)).number, 1, "Head.trip")
+    high = 1 << 32  # beyond the lower half of a word
+    for trip in (9, high + 120):
+        same(h.call("open")(h.head(trip, [100] * 12)).number, 1, "Head.trip")
     for i in range(12):
-        same(h.call("open")(h.head(120, [100] * i + [-301] + [100] * (11 - i))).number, 2, "Head.temps")
+        for t in (-301, high + 100):
+            same(h.call("open")(h.head(120, [100] * i + [t] + [100] * (11 - i))).number, 2, "Head.temps")
     add = h.call("add")
     for number, fields in ((3, {"vehicle_class": 0}), (4, {"vehicles": 0}), (5, {"km": 0}),
+                           (3, {"vehicle_class": high + 2}), (4, {"vehicles": high + 1000}), (5, {"km": high + 10000}),
                            (7, {"shares": (41, 40, 20)}), (7, {"shares": (40, 41, 20)}), (7, {"shares": (40, 40, 21)}),
-                           (8, {"speeds": (9, 60, 100)}), (8, {"speeds": (20, 9, 100)}), (8, {"speeds": (20, 60, 9)})):
+                           (7, {"shares": (high + 40, 40, 20)}), (7, {"shares": (40, high + 40, 20)}), (7, {"shares": (40, 40, high + 20)}),
+                           (8, {"speeds": (9, 60, 100)}), (8, {"speeds": (20, 9, 100)}), (8, {"speeds": (20, 60, 9)}),
+                           (8, {"speeds": (high + 20, 60, 100)}), (8, {"speeds": (20, high + 60, 100)}), (8, {"speeds": (20, 60, high + 100)})):
         same(add(run, record(**fields)).number, number, "Record, %s" % fields)
     # the whole distance on one road: CO of class 2 at 20, 60 and 100 km/h
     for road, grams in enumerate((15095000, 15295000, 34695000)):
@@ -167,14 +162,13 @@ def answers(run):
     same(fields(h.call("figure_cold")(run, 1, 4)), (0, 0, 0.0), "FigureAnswer")
     same(fields(h.call("figure_cold")(run, 1, 6)), (11, 0, 0.0), "FigureAnswer")
     same(fields(h.call("layout")()), (h.LAYOUT, sizeof(h.Run)), "LayoutAnswer")
-    if has_sheets():
-        text = (b"  120" + b"  100" * 12 + b"\n 2   1000  10000  40  40  20  20  60 100\n"
-                b" 0   1000  10000  40  40  20  20  60 100\n")
-        a = h.call("sheet")(h._bytes(text), 107)
-        same((a.number, a.line, bytes(a.run)), (0, 0, bytes(run)), "SheetAnswer")
-        a = h.call("sheet")(h._bytes(text), len(text))
-        same((a.number, a.line, bytes(a.run)), (3, 3, bytes(1120)), "SheetAnswer")
-        same(h.report_sheet(text), b"REFUSED  3     3\n", "report_sheet")
+    text = (b"  120" + b"  100" * 12 + b"\n 2   1000  10000  40  40  20  20  60 100\n"
+            b" 0   1000  10000  40  40  20  20  60 100\n")
+    a = h.call("sheet")(h._bytes(text), 107)
+    same((a.number, a.line, bytes(a.run)), (0, 0, bytes(run)), "SheetAnswer")
+    a = h.call("sheet")(h._bytes(text), len(text))
+    same((a.number, a.line, bytes(a.run)), (3, 3, bytes(1120)), "SheetAnswer")
+    same(h.report_sheet(text), b"REFUSED  3     3\n", "report_sheet")
 
 
 def main():

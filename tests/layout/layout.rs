@@ -32,7 +32,13 @@ const RECORD: Record = Record {
 macro_rules! struct_is {
     ($c:ident, $type:ident, $size:expr, $($field:ident $offset:expr),*) => {
         $c.same(size_of::<$type>(), $size, concat!("size of ", stringify!($type)));
-        $($c.same(offset_of!($type, $field), $offset, concat!(stringify!($type), ".", stringify!($field)));)*
+        // a field ends where the next one begins: there is no padding
+        let mut end = 0;
+        let value: $type = unsafe { std::mem::zeroed() };
+        $($c.same(offset_of!($type, $field), $offset, concat!(stringify!($type), ".", stringify!($field)));
+          $c.same($offset, end, concat!("end of the field before ", stringify!($type), ".", stringify!($field)));
+          end += size_of_val(&value.$field);)*
+        $c.same(end, $size, concat!("end of ", stringify!($type)));
     };
 }
 
@@ -84,12 +90,9 @@ fn sizes_written(c: &mut Check, run: Run) {
         let raw: RawQuestion = unsafe { transmute(figure) };
         written(c, size_of::<FigureAnswer>(), "figure", |p| raw(p, run, 1, 1));
     }
-    #[cfg(sheets)]
-    {
-        let raw: extern "C" fn(*mut u8, *const u8, usize) -> *mut u8 =
-            unsafe { transmute(haldurap_sheet as unsafe extern "C" fn(*const u8, usize) -> SheetAnswer) };
-        written(c, size_of::<SheetAnswer>(), "sheet", |p| raw(p, b"x".as_ptr(), 1));
-    }
+    let raw: extern "C" fn(*mut u8, *const u8, usize) -> *mut u8 =
+        unsafe { transmute(haldurap_sheet as unsafe extern "C" fn(*const u8, usize) -> SheetAnswer) };
+    written(c, size_of::<SheetAnswer>(), "sheet", |p| raw(p, b"x".as_ptr(), 1));
 }
 
 #[cfg(not(all(target_arch = "x86_64", unix)))]
@@ -97,26 +100,33 @@ fn sizes_written(_: &mut Check, _: Run) {}
 
 /// Each field of a head and a record: a bad value is refused with its own number, a good one has its own effect.
 fn inputs(c: &mut Check, run: Run) {
+    const HIGH: u64 = 1 << 32; // beyond the lower half of a word
     c.same(haldurap_open(Head { trip: 9, ..HEAD }).number, 1, "Head.trip");
+    c.same(haldurap_open(Head { trip: HIGH + 120, ..HEAD }).number, 1, "Head.trip");
     for i in 0..12 {
         let mut head = HEAD;
         head.temps[i] = -301;
         c.same(haldurap_open(head).number, 2, "Head.temps");
+        head.temps[i] = HIGH as i64 + 100;
+        c.same(haldurap_open(head).number, 2, "Head.temps");
     }
-    let changes: [(&str, u64, fn(&mut Record)); 9] = [
-        ("Record.class", 3, |r| r.class = 0),
-        ("Record.vehicles", 4, |r| r.vehicles = 0),
-        ("Record.km", 5, |r| r.km = 0),
-        ("Shares.urban", 7, |r| r.shares.urban += 1),
-        ("Shares.rural", 7, |r| r.shares.rural += 1),
-        ("Shares.highway", 7, |r| r.shares.highway += 1),
-        ("Speeds.urban", 8, |r| r.speeds.urban = 9),
-        ("Speeds.rural", 8, |r| r.speeds.rural = 9),
-        ("Speeds.highway", 8, |r| r.speeds.highway = 9),
+    let fields: [(&str, u64, u64, fn(&mut Record) -> &mut u64); 9] = [
+        ("Record.class", 0, 3, |r| &mut r.class),
+        ("Record.vehicles", 0, 4, |r| &mut r.vehicles),
+        ("Record.km", 0, 5, |r| &mut r.km),
+        ("Shares.urban", 41, 7, |r| &mut r.shares.urban),
+        ("Shares.rural", 41, 7, |r| &mut r.shares.rural),
+        ("Shares.highway", 21, 7, |r| &mut r.shares.highway),
+        ("Speeds.urban", 9, 8, |r| &mut r.speeds.urban),
+        ("Speeds.rural", 9, 8, |r| &mut r.speeds.rural),
+        ("Speeds.highway", 9, 8, |r| &mut r.speeds.highway),
     ];
-    for (what, number, change) in changes {
+    for (what, wrong, number, field) in fields {
         let mut record = RECORD;
-        change(&mut record);
+        *field(&mut record) = wrong;
+        c.same(haldurap_add(run, record).number, number, what);
+        let mut record = RECORD;
+        *field(&mut record) += HIGH;
         c.same(haldurap_add(run, record).number, number, what);
     }
     // the whole distance on one road: CO of class 2 at 20, 60 and 100 km/h
@@ -193,13 +203,10 @@ fn answers(c: &mut Check, run: Run) {
     c.same(haldurap_figure_cold(run, 1, 4), FigureAnswer { number: 0, given: 0, grams: 0.0 }, "FigureAnswer");
     c.same(haldurap_figure_cold(run, 1, 6), FigureAnswer { number: 11, given: 0, grams: 0.0 }, "FigureAnswer");
     c.same(haldurap_layout(), LayoutAnswer { version: LAYOUT, size: size_of::<Run>() as u64 }, "LayoutAnswer");
-    #[cfg(sheets)]
-    {
-        let text = b"  120  100  100  100  100  100  100  100  100  100  100  100  100\n 2   1000  10000  40  40  20  20  60 100\n 0   1000  10000  40  40  20  20  60 100\n";
-        c.same(sheet(&text[..107]), SheetAnswer { number: 0, line: 0, run }, "SheetAnswer");
-        let zeros = Run { trip: 0, x: [0; 15], count: 0, km: [0; 3], grams: [0; 60], rests: [0; 60] };
-        c.same(sheet(text), SheetAnswer { number: 3, line: 3, run: zeros }, "SheetAnswer");
-    }
+    let text = b"  120  100  100  100  100  100  100  100  100  100  100  100  100\n 2   1000  10000  40  40  20  20  60 100\n 0   1000  10000  40  40  20  20  60 100\n";
+    c.same(sheet(&text[..107]), SheetAnswer { number: 0, line: 0, run }, "SheetAnswer");
+    let zeros = Run { trip: 0, x: [0; 15], count: 0, km: [0; 3], grams: [0; 60], rests: [0; 60] };
+    c.same(sheet(text), SheetAnswer { number: 3, line: 3, run: zeros }, "SheetAnswer");
 }
 
 fn main() {
