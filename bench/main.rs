@@ -1,5 +1,6 @@
 //! Times the archive, in one run and on the same inputs, against (a) the plain reference of tests/differential and (b) the
-//! same tuned by hand (tuned.rs). Every row is the best of many short repetitions, the three taken in turn.
+//! same tuned by hand (tuned.rs). Every row is the best of many short repetitions, the three taken in turn, so that other
+//! work on the machine does not show unless it never stops.
 //!
 //!     bench [REPETITIONS]
 #[path = "../include/haldurap.rs"]
@@ -57,12 +58,23 @@ fn inputs() -> Inputs {
     }
 }
 
-fn sheet_text(inputs: &Inputs, n: usize) -> Vec<u8> {
-    let mut text = random::head_line(&inputs.heads[0]);
-    for record in &inputs.records[..n] {
-        text.extend(random::record_line(record));
-    }
-    text
+/// Sheets of n records. Short ones are many, so that a processor cannot learn the branches of a single one by heart.
+fn sheet_texts(inputs: &Inputs, n: usize) -> Vec<Vec<u8>> {
+    let texts = if n == 0 { 64 } else { 1596 / n };
+    let text = |i: usize| {
+        let mut text = random::head_line(&inputs.heads[i % 64]);
+        for record in &inputs.records[i * n..i * n + n] {
+            text.extend(random::record_line(record));
+        }
+        text
+    };
+    (0..texts).map(text).collect()
+}
+
+/// The texts one after the other, without end.
+fn next<'a>(texts: &'a [Vec<u8>], at: &mut usize) -> &'a [u8] {
+    *at = if *at + 1 < texts.len() { *at + 1 } else { 0 };
+    black_box(&texts[*at])
 }
 
 // ---- The calls as a program that is linked with a library makes them: none is drawn into the loop
@@ -124,16 +136,23 @@ fn our_sheet(text: &[u8], buffer: &mut [u8]) -> usize {
 
 // ---- Measuring
 
-/// The best time of one operation in ns for each of three, taken in turn. `times` operations are done at a time.
-fn best(repetitions: usize, times: usize, mut work: [&mut dyn FnMut(); 3]) -> [f64; 3] {
+/// The best time of one operation in ns for each of three, taken in turn. A repetition is as many operations as take about
+/// 50 microseconds, or one.
+fn best(repetitions: usize, mut work: [&mut dyn FnMut(); 3]) -> [f64; 3] {
     let mut best = [f64::MAX; 3];
-    for _ in 0..repetitions {
-        for (work, best) in work.iter_mut().zip(&mut best) {
+    let mut times = [1u32; 3];
+    for i in 0..repetitions + 10 {
+        for ((work, best), times) in work.iter_mut().zip(&mut best).zip(&mut times) {
             let start = Instant::now();
-            for _ in 0..times {
+            for _ in 0..*times {
                 work();
             }
-            *best = best.min(start.elapsed().as_nanos() as f64 / times as f64);
+            let each = start.elapsed().as_nanos() as f64 / *times as f64;
+            *best = best.min(each);
+            if i < 10 {
+                *times = (50_000.0 / *best).clamp(1.0, 10_000.0) as u32;
+                *best = f64::MAX;
+            }
         }
     }
     best
@@ -157,19 +176,18 @@ fn row(name: &str, times: [f64; 3]) {
 fn adds(inputs: &Inputs, repetitions: usize) -> [[f64; 10]; 3] {
     let mut best = [[f64::MAX; 10]; 3];
     for _ in 0..repetitions {
-        let mut run = c::haldurap_open(inputs.c_heads[0]).run;
+        let mut answer = c::haldurap_open(inputs.c_heads[0]);
         for part in 0..10 {
             let start = Instant::now();
             let mut refused = 0;
             for r in &inputs.c_records[part * 500..part * 500 + 500] {
-                let answer = c::haldurap_add(run, *r);
+                answer = c::haldurap_add(answer.run, *r);
                 refused |= answer.number;
-                run = answer.run;
             }
             best[0][part] = best[0][part].min(start.elapsed().as_nanos() as f64 / 500.0);
             assert_eq!(refused, 0);
         }
-        black_box(run);
+        black_box(answer);
         let mut run = plain_open(&inputs.heads[0]);
         for part in 0..10 {
             let start = Instant::now();
@@ -215,7 +233,7 @@ fn full_runs(inputs: &Inputs) -> (c::Run, plain::Run, tuned::Run) {
 }
 
 fn main() {
-    let repetitions: usize = std::env::args().nth(1).map_or(40, |n| n.parse().expect("REPETITIONS"));
+    let repetitions: usize = std::env::args().nth(1).map_or(300, |n| n.parse().expect("REPETITIONS"));
     let inputs = inputs();
     let (ours, a, b) = full_runs(&inputs);
     let load = std::fs::read_to_string("/proc/loadavg").unwrap_or_default();
@@ -228,14 +246,16 @@ fn main() {
     let [buffer, buffer_a, buffer_b] = &mut buffers;
     let mut lengths = Vec::new();
     for n in [0, 1, 10, 50, 100, 200, 400, 800, 1200, 1596] {
-        let text = sheet_text(&inputs, n);
-        let want = [plain_sheet(&text, buffer_a), tuned_sheet(&text, buffer_b)];
-        assert!(want[0] == want[1] && buffer_a == buffer_b, "sheets differ at {n} records");
-        assert!(our_sheet(&text, buffer) == want[0] && buffer == buffer_a, "the archive's sheet differs at {n} records");
-        let times = best(repetitions, 1 + 2000 / (n + 1), [
-            &mut || { black_box(our_sheet(black_box(&text), black_box(buffer))); },
-            &mut || { black_box(plain_sheet(black_box(&text), black_box(buffer_a))); },
-            &mut || { black_box(tuned_sheet(black_box(&text), black_box(buffer_b))); },
+        let texts = sheet_texts(&inputs, n);
+        for text in &texts {
+            let lengths = [our_sheet(text, buffer), plain_sheet(text, buffer_a), tuned_sheet(text, buffer_b)];
+            assert!(lengths == [lengths[0]; 3] && buffer == buffer_a && buffer == buffer_b, "sheets differ at {n} records");
+        }
+        let [mut i, mut j, mut k] = [0; 3];
+        let times = best(repetitions, [
+            &mut || { black_box(our_sheet(next(&texts, &mut i), black_box(buffer))); },
+            &mut || { black_box(plain_sheet(next(&texts, &mut j), black_box(buffer_a))); },
+            &mut || { black_box(tuned_sheet(next(&texts, &mut k), black_box(buffer_b))); },
         ]);
         if [1, 100, 1596].contains(&n) {
             row(&format!("sheet to report, {n} record{}", if n == 1 { "" } else { "s" }), times);
@@ -247,7 +267,7 @@ fn main() {
     row("add, up to 5,000", positions.map(|p| p.iter().sum::<f64>() / 10.0));
 
     let places: Vec<(u64, u64)> = (1..=3).flat_map(|f| (1..=5).map(move |q| (f, q))).collect();
-    let times = best(repetitions, 200, [
+    let times = best(repetitions, [
         &mut || places.iter().for_each(|&(f, q)| { black_box(c::haldurap_total(*black_box(&ours), black_box(f), q)); }),
         &mut || places.iter().for_each(|&(f, q)| { black_box(plain_total(black_box(&a), black_box(f), q)); }),
         &mut || places.iter().for_each(|&(f, q)| { black_box(tuned_total(black_box(&b), black_box(f), q)); }),
@@ -257,7 +277,7 @@ fn main() {
     let length = c::report(ours, buffer).bytes;
     assert_eq!([plain_report(&a, buffer_a), tuned_report(&b, buffer_b)], [length; 2]);
     assert!(buffer == buffer_a && buffer == buffer_b, "the three reports differ");
-    let times = best(repetitions, 500, [
+    let times = best(repetitions, [
         &mut || { black_box(c::report(*black_box(&ours), black_box(buffer))); },
         &mut || { black_box(plain_report(black_box(&a), black_box(buffer_a))); },
         &mut || { black_box(tuned_report(black_box(&b), black_box(buffer_b))); },
@@ -265,7 +285,7 @@ fn main() {
     row(&format!("report of a full run ({} lines)", length / 97), times);
 
     let mut fresh = tuned::ZERO;
-    let times = best(repetitions, 50, [
+    let times = best(repetitions, [
         &mut || inputs.c_heads.iter().for_each(|h| { black_box(c::haldurap_open(*black_box(h))); }),
         &mut || inputs.heads.iter().for_each(|h| { black_box(plain_open(black_box(h))); }),
         &mut || inputs.tuned_heads.iter().for_each(|h| { black_box(tuned_open(black_box(h), black_box(&mut fresh))); }),
@@ -277,7 +297,7 @@ fn main() {
         let p = positions.map(|p| p[part]);
         println!("{:<36}{:>12.1}{:>12.1}{:>12.1}{:>10.2}{:>10.2}", format!("{} to {}", part * 500 + 1, part * 500 + 500), p[0], p[1], p[2], p[0] / p[1], p[0] / p[2]);
     }
-    println!("\nsheets by length, ns a record beyond what the head alone takes");
+    println!("\nsheets by length, ns a record beyond what the head alone takes (the first records bring the lines of the report too)");
     let (_, head) = lengths[0];
     println!("{:<36}{:>12.1}{:>12.1}{:>12.1}", "the head alone, ns", head[0], head[1], head[2]);
     for &(n, times) in &lengths[1..] {
