@@ -2,7 +2,7 @@
 //! same tuned by hand (tuned.rs). Every row is the best of many short repetitions, the three taken in turn, so that other
 //! work on the machine does not show unless it never stops.
 //!
-//!     bench [REPETITIONS]
+//!     bench [PASSES]
 #[path = "../include/haldurap.rs"]
 mod haldurap;
 #[path = "../tests/differential/random.rs"]
@@ -160,16 +160,15 @@ fn best(repetitions: usize, mut work: [&mut dyn FnMut(); 3]) -> [f64; 3] {
 
 fn row(name: &str, times: [f64; 3]) {
     let [ours, a, b] = times;
-    let verdict = if ours > a {
-        "SLOWER THAN (a)"
-    } else if ours <= 1.2 * b {
+    let first = if ours > a { "SLOWER THAN (a), " } else { "" };
+    let second = if ours <= 1.2 * b {
         "within 1.2 of (b)"
     } else if ours <= 1.5 * b {
         "within 1.5 of (b)"
     } else {
         "OVER 1.5 OF (b)"
     };
-    println!("{name:<36}{ours:>12.1}{a:>12.1}{b:>12.1}{:>10.2}{:>10.2}  {verdict}", ours / a, ours / b);
+    println!("{name:<36}{ours:>12.1}{a:>12.1}{b:>12.1}{:>10.2}{:>10.2}  {first}{second}", ours / a, ours / b);
 }
 
 /// Adds into a run up to 5,000: ns an add by position, in parts of 500, the best of each part.
@@ -232,21 +231,28 @@ fn full_runs(inputs: &Inputs) -> (c::Run, plain::Run, tuned::Run) {
     (ours, a, b)
 }
 
-fn main() {
-    let repetitions: usize = std::env::args().nth(1).map_or(300, |n| n.parse().expect("REPETITIONS"));
-    let inputs = inputs();
-    let (ours, a, b) = full_runs(&inputs);
-    let load = std::fs::read_to_string("/proc/loadavg").unwrap_or_default();
-    println!("load before: {}", load.trim());
-    println!("best of {repetitions} repetitions; ns for one operation; (a) plain reference, (b) tuned by hand\n");
-    println!("{:<36}{:>12}{:>12}{:>12}{:>10}{:>10}", "", "archive", "(a)", "(b)", "to (a)", "to (b)");
+/// Keeps the better of two.
+fn keep<const N: usize>(kept: &mut [f64; N], times: [f64; N]) {
+    kept.iter_mut().zip(times).for_each(|(kept, time)| *kept = kept.min(time));
+}
 
-    // sheet text to report text
+const LENGTHS: [usize; 10] = [0, 1, 10, 50, 100, 200, 400, 800, 1200, 1596];
+
+/// The best times: of sheets by length, adds by position, a total, a report, opening.
+struct Best {
+    sheets: [[f64; 3]; LENGTHS.len()],
+    adds: [[f64; 10]; 3],
+    total: [f64; 3],
+    report: [f64; 3],
+    open: [f64; 3],
+}
+
+/// Measures everything once more.
+fn pass(best_of: &mut Best, inputs: &Inputs, (ours, a, b): &(c::Run, plain::Run, tuned::Run), repetitions: usize) {
     let mut buffers = [[0u8; c::REPORT_BYTES]; 3];
     let [buffer, buffer_a, buffer_b] = &mut buffers;
-    let mut lengths = Vec::new();
-    for n in [0, 1, 10, 50, 100, 200, 400, 800, 1200, 1596] {
-        let texts = sheet_texts(&inputs, n);
+    for (n, kept) in LENGTHS.into_iter().zip(&mut best_of.sheets) {
+        let texts = sheet_texts(inputs, n);
         for text in &texts {
             let lengths = [our_sheet(text, buffer), plain_sheet(text, buffer_a), tuned_sheet(text, buffer_b)];
             assert!(lengths == [lengths[0]; 3] && buffer == buffer_a && buffer == buffer_b, "sheets differ at {n} records");
@@ -257,32 +263,29 @@ fn main() {
             &mut || { black_box(plain_sheet(next(&texts, &mut j), black_box(buffer_a))); },
             &mut || { black_box(tuned_sheet(next(&texts, &mut k), black_box(buffer_b))); },
         ]);
-        if [1, 100, 1596].contains(&n) {
-            row(&format!("sheet to report, {n} record{}", if n == 1 { "" } else { "s" }), times);
-        }
-        lengths.push((n, times));
+        keep(kept, times);
     }
 
-    let positions = adds(&inputs, repetitions);
-    row("add, up to 5,000", positions.map(|p| p.iter().sum::<f64>() / 10.0));
+    for (kept, times) in best_of.adds.iter_mut().zip(adds(inputs, repetitions)) {
+        keep(kept, times);
+    }
 
     let places: Vec<(u64, u64)> = (1..=3).flat_map(|f| (1..=5).map(move |q| (f, q))).collect();
     let times = best(repetitions, [
-        &mut || places.iter().for_each(|&(f, q)| { black_box(c::haldurap_total(*black_box(&ours), black_box(f), q)); }),
-        &mut || places.iter().for_each(|&(f, q)| { black_box(plain_total(black_box(&a), black_box(f), q)); }),
-        &mut || places.iter().for_each(|&(f, q)| { black_box(tuned_total(black_box(&b), black_box(f), q)); }),
+        &mut || places.iter().for_each(|&(f, q)| { black_box(c::haldurap_total(*black_box(ours), black_box(f), q)); }),
+        &mut || places.iter().for_each(|&(f, q)| { black_box(plain_total(black_box(a), black_box(f), q)); }),
+        &mut || places.iter().for_each(|&(f, q)| { black_box(tuned_total(black_box(b), black_box(f), q)); }),
     ]);
-    row("total of a full run", times.map(|t| t / 15.0));
+    keep(&mut best_of.total, times.map(|t| t / 15.0));
 
-    let length = c::report(ours, buffer).bytes;
-    assert_eq!([plain_report(&a, buffer_a), tuned_report(&b, buffer_b)], [length; 2]);
-    assert!(buffer == buffer_a && buffer == buffer_b, "the three reports differ");
+    let lengths = [c::report(*ours, buffer).bytes, plain_report(a, buffer_a), tuned_report(b, buffer_b)];
+    assert!(lengths == [lengths[0]; 3] && buffer == buffer_a && buffer == buffer_b, "the three reports differ");
     let times = best(repetitions, [
-        &mut || { black_box(c::report(*black_box(&ours), black_box(buffer))); },
-        &mut || { black_box(plain_report(black_box(&a), black_box(buffer_a))); },
-        &mut || { black_box(tuned_report(black_box(&b), black_box(buffer_b))); },
+        &mut || { black_box(c::report(*black_box(ours), black_box(buffer))); },
+        &mut || { black_box(plain_report(black_box(a), black_box(buffer_a))); },
+        &mut || { black_box(tuned_report(black_box(b), black_box(buffer_b))); },
     ]);
-    row(&format!("report of a full run ({} lines)", length / 97), times);
+    keep(&mut best_of.report, times);
 
     let mut fresh = tuned::ZERO;
     let times = best(repetitions, [
@@ -290,20 +293,43 @@ fn main() {
         &mut || inputs.heads.iter().for_each(|h| { black_box(plain_open(black_box(h))); }),
         &mut || inputs.tuned_heads.iter().for_each(|h| { black_box(tuned_open(black_box(h), black_box(&mut fresh))); }),
     ]);
-    row("opening", times.map(|t| t / 64.0));
+    keep(&mut best_of.open, times.map(|t| t / 64.0));
+}
+
+fn load() -> String {
+    std::fs::read_to_string("/proc/loadavg").unwrap_or_default().split(' ').take(3).collect::<Vec<_>>().join(" ")
+}
+
+fn main() {
+    let passes: usize = std::env::args().nth(1).map_or(6, |n| n.parse().expect("PASSES"));
+    let inputs = inputs();
+    let runs = full_runs(&inputs);
+    println!("load before: {}", load());
+    let mut b = Best { sheets: [[f64::MAX; 3]; LENGTHS.len()], adds: [[f64::MAX; 10]; 3], total: [f64::MAX; 3], report: [f64::MAX; 3], open: [f64::MAX; 3] };
+    for _ in 0..passes {
+        pass(&mut b, &inputs, &runs, 100);
+    }
+    println!("load after: {}", load());
+    println!("ns for one operation, the best of {passes} passes of 100 repetitions; (a) plain reference, (b) tuned by hand\n");
+    println!("{:<36}{:>12}{:>12}{:>12}{:>10}{:>10}", "", "archive", "(a)", "(b)", "to (a)", "to (b)");
+    for (n, name) in [(1, "1 record"), (100, "100 records"), (1596, "1,596 records")] {
+        row(&format!("sheet to report, {name}"), b.sheets[LENGTHS.iter().position(|&l| l == n).unwrap()]);
+    }
+    row("add, up to 5,000", b.adds.map(|p| p.iter().sum::<f64>() / 10.0));
+    row("total of a full run", b.total);
+    row("report of a full run", b.report);
+    row("opening", b.open);
 
     println!("\nadds by position in the run, ns an add");
     for part in 0..10 {
-        let p = positions.map(|p| p[part]);
+        let p = b.adds.map(|p| p[part]);
         println!("{:<36}{:>12.1}{:>12.1}{:>12.1}{:>10.2}{:>10.2}", format!("{} to {}", part * 500 + 1, part * 500 + 500), p[0], p[1], p[2], p[0] / p[1], p[0] / p[2]);
     }
     println!("\nsheets by length, ns a record beyond what the head alone takes (the first records bring the lines of the report too)");
-    let (_, head) = lengths[0];
+    let head = b.sheets[0];
     println!("{:<36}{:>12.1}{:>12.1}{:>12.1}", "the head alone, ns", head[0], head[1], head[2]);
-    for &(n, times) in &lengths[1..] {
+    for (n, times) in LENGTHS.into_iter().zip(b.sheets).skip(1) {
         let each: Vec<f64> = (0..3).map(|i| (times[i] - head[i]) / n as f64).collect();
         println!("{n:<36}{:>12.1}{:>12.1}{:>12.1}{:>10.2}{:>10.2}", each[0], each[1], each[2], each[0] / each[1], each[0] / each[2]);
     }
-    let load = std::fs::read_to_string("/proc/loadavg").unwrap_or_default();
-    println!("\nload after: {}", load.trim());
 }

@@ -1,5 +1,5 @@
 #!/usr/bin/env bash
-# Times the archive against the plain reference and against the same tuned by hand. bench/run.sh [REPETITIONS]
+# Times the archive against the plain reference and against the same tuned by hand. bench/run.sh [PASSES]
 set -eu
 cd "$(dirname "$0")/.."
 mkdir -p target
