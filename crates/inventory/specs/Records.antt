@@ -13,7 +13,7 @@ use Rattle.coldstart.specs.ColdStart.{temperatureOk}
 use Rattle.inventory.specs.declared.Head.{Head}
 use Rattle.inventory.specs.declared.Record.{Record}
 
--- the temperature of month k
+-- the temperature of month k is in range
 abbrev pub monthOk : Head → ℕ → Bool
 monthOk head k = temperatureOk (getD (head .temps) k (pos 0))
 
