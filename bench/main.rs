@@ -1,0 +1,335 @@
+//! Times the archive, in one run and on the same inputs, against (a) the plain reference of tests/differential and (b) the
+//! same tuned by hand (tuned.rs). Every row is the best of many short repetitions, the three taken in turn, so that other
+//! work on the machine does not show unless it never stops.
+//!
+//!     bench [PASSES]
+#[path = "../include/haldurap.rs"]
+mod haldurap;
+#[path = "../tests/differential/random.rs"]
+mod random;
+#[path = "../tests/differential/reference.rs"]
+mod reference;
+mod tuned;
+
+use haldurap as c;
+use random::Random;
+use reference as plain;
+use std::hint::black_box;
+use std::time::Instant;
+
+// ---- The same inputs for all three
+
+fn c_record(r: &plain::Record) -> c::Record {
+    let ([u, v, w], [a, b, d]) = (r.shares, r.speeds);
+    c::Record {
+        class: r.class,
+        vehicles: r.vehicles,
+        km: r.km,
+        shares: c::Shares { urban: u, rural: v, highway: w },
+        speeds: c::Speeds { urban: a, rural: b, highway: d },
+    }
+}
+
+fn tuned_record(r: &plain::Record) -> tuned::Record {
+    tuned::Record { class: r.class, vehicles: r.vehicles, km: r.km, shares: r.shares, speeds: r.speeds }
+}
+
+struct Inputs {
+    heads: Vec<plain::Head>,
+    records: Vec<plain::Record>,
+    c_heads: Vec<c::Head>,
+    c_records: Vec<c::Record>,
+    tuned_heads: Vec<tuned::Head>,
+    tuned_records: Vec<tuned::Record>,
+}
+
+fn inputs() -> Inputs {
+    let mut r = Random(7);
+    let heads: Vec<_> = (0..64).map(|_| random::good_head(&mut r)).collect();
+    // whole fleets with kilometres of every size, all classes, and no record that is refused
+    let records: Vec<_> = (0..5000).map(|_| random::good_record(&mut r)).collect();
+    Inputs {
+        c_heads: heads.iter().map(|h| c::Head { trip: h.trip, temps: h.temps }).collect(),
+        tuned_heads: heads.iter().map(|h| tuned::Head { trip: h.trip, temps: h.temps }).collect(),
+        c_records: records.iter().map(c_record).collect(),
+        tuned_records: records.iter().map(tuned_record).collect(),
+        heads,
+        records,
+    }
+}
+
+/// Sheets of n records. Short ones are many, so that a processor cannot learn the branches of a single one by heart.
+fn sheet_texts(inputs: &Inputs, n: usize) -> Vec<Vec<u8>> {
+    let texts = if n == 0 { 64 } else { 1596 / n };
+    let text = |i: usize| {
+        let mut text = random::head_line(&inputs.heads[i % 64]);
+        for record in &inputs.records[i * n..i * n + n] {
+            text.extend(random::record_line(record));
+        }
+        text
+    };
+    (0..texts).map(text).collect()
+}
+
+/// The texts one after the other, without end.
+fn next<'a>(texts: &'a [Vec<u8>], at: &mut usize) -> &'a [u8] {
+    *at = if *at + 1 < texts.len() { *at + 1 } else { 0 };
+    black_box(&texts[*at])
+}
+
+// ---- The calls as a program that is linked with a library makes them: none is drawn into the loop
+
+#[inline(never)]
+fn plain_add(run: &mut plain::Run, r: &plain::Record) -> u64 {
+    run.add(r).err().unwrap_or(0)
+}
+
+#[inline(never)]
+fn tuned_add(run: &mut tuned::Run, r: &tuned::Record) -> u64 {
+    tuned::add(run, r)
+}
+
+#[inline(never)]
+fn plain_total(run: &plain::Run, fuel: u64, quantity: u64) -> u64 {
+    run.total(fuel, quantity).unwrap_or(0)
+}
+
+#[inline(never)]
+fn tuned_total(run: &tuned::Run, fuel: u64, quantity: u64) -> u64 {
+    tuned::total(run, fuel, quantity).1
+}
+
+#[inline(never)]
+fn plain_report(run: &plain::Run, buffer: &mut [u8]) -> usize {
+    run.write_report(buffer).unwrap_or(0)
+}
+
+#[inline(never)]
+fn tuned_report(run: &tuned::Run, buffer: &mut [u8]) -> usize {
+    tuned::report(run, buffer).1
+}
+
+#[inline(never)]
+fn plain_sheet(text: &[u8], buffer: &mut [u8]) -> usize {
+    plain::write_sheet_report(text, buffer).unwrap_or(0)
+}
+
+#[inline(never)]
+fn tuned_sheet(text: &[u8], buffer: &mut [u8]) -> usize {
+    tuned::report_sheet(text, buffer).1
+}
+
+#[inline(never)]
+fn plain_open(head: &plain::Head) -> plain::Run {
+    plain::open(head).unwrap_or_default()
+}
+
+#[inline(never)]
+fn tuned_open(head: &tuned::Head, run: &mut tuned::Run) -> u64 {
+    *run = tuned::ZERO;
+    tuned::open(head, run)
+}
+
+fn our_sheet(text: &[u8], buffer: &mut [u8]) -> usize {
+    c::report_sheet(text, buffer).bytes
+}
+
+// ---- Measuring
+
+/// The best time of one operation in ns for each of three, taken in turn. A repetition is as many operations as take about
+/// 50 microseconds, or one.
+fn best(repetitions: usize, mut work: [&mut dyn FnMut(); 3]) -> [f64; 3] {
+    let mut best = [f64::MAX; 3];
+    let mut times = [1u32; 3];
+    for i in 0..repetitions + 10 {
+        for ((work, best), times) in work.iter_mut().zip(&mut best).zip(&mut times) {
+            let start = Instant::now();
+            for _ in 0..*times {
+                work();
+            }
+            let each = start.elapsed().as_nanos() as f64 / *times as f64;
+            *best = best.min(each);
+            if i < 10 {
+                *times = (50_000.0 / *best).clamp(1.0, 10_000.0) as u32;
+                *best = f64::MAX;
+            }
+        }
+    }
+    best
+}
+
+fn row(name: &str, times: [f64; 3]) {
+    let [ours, a, b] = times;
+    let first = if ours > a { "SLOWER THAN (a), " } else { "" };
+    let second = if ours <= 1.2 * b {
+        "within 1.2 of (b)"
+    } else if ours <= 1.5 * b {
+        "within 1.5 of (b)"
+    } else {
+        "OVER 1.5 OF (b)"
+    };
+    println!("{name:<36}{ours:>12.1}{a:>12.1}{b:>12.1}{:>10.2}{:>10.2}  {first}{second}", ours / a, ours / b);
+}
+
+/// Adds into a run up to 5,000: ns an add by position, in parts of 500, the best of each part.
+fn adds(inputs: &Inputs, repetitions: usize) -> [[f64; 10]; 3] {
+    let mut best = [[f64::MAX; 10]; 3];
+    for _ in 0..repetitions {
+        let mut answer = c::haldurap_open(inputs.c_heads[0]);
+        for part in 0..10 {
+            let start = Instant::now();
+            let mut refused = 0;
+            for r in &inputs.c_records[part * 500..part * 500 + 500] {
+                answer = c::haldurap_add(answer.run, *r);
+                refused |= answer.number;
+            }
+            best[0][part] = best[0][part].min(start.elapsed().as_nanos() as f64 / 500.0);
+            assert_eq!(refused, 0);
+        }
+        black_box(answer);
+        let mut run = plain_open(&inputs.heads[0]);
+        for part in 0..10 {
+            let start = Instant::now();
+            let mut refused = 0;
+            for r in &inputs.records[part * 500..part * 500 + 500] {
+                refused |= plain_add(&mut run, r);
+            }
+            best[1][part] = best[1][part].min(start.elapsed().as_nanos() as f64 / 500.0);
+            assert_eq!(refused, 0);
+        }
+        black_box(run);
+        let mut run = tuned::ZERO;
+        tuned_open(&inputs.tuned_heads[0], &mut run);
+        for part in 0..10 {
+            let start = Instant::now();
+            let mut refused = 0;
+            for r in &inputs.tuned_records[part * 500..part * 500 + 500] {
+                refused |= tuned_add(&mut run, r);
+            }
+            best[2][part] = best[2][part].min(start.elapsed().as_nanos() as f64 / 500.0);
+            assert_eq!(refused, 0);
+        }
+        black_box(run);
+    }
+    best
+}
+
+/// Full runs of all three, which must be the same run.
+fn full_runs(inputs: &Inputs) -> (c::Run, plain::Run, tuned::Run) {
+    let mut ours = c::haldurap_open(inputs.c_heads[0]).run;
+    let mut a = plain_open(&inputs.heads[0]);
+    let mut b = tuned::ZERO;
+    tuned_open(&inputs.tuned_heads[0], &mut b);
+    for i in 0..5000 {
+        let answer = c::haldurap_add(ours, inputs.c_records[i]);
+        ours = answer.run;
+        assert_eq!([answer.number, plain_add(&mut a, &inputs.records[i]), tuned_add(&mut b, &inputs.tuned_records[i])], [0; 3]);
+    }
+    let sums = a.sums.as_flattened().as_flattened();
+    let same = b == tuned::Run { trip: ours.trip, x: ours.x, count: ours.count, km: ours.km, grams: ours.grams, rests: ours.rests };
+    assert!(same && (0..60).all(|i| sums[i] == plain::Sum { grams: ours.grams[i], rest: ours.rests[i] }), "the three runs differ");
+    (ours, a, b)
+}
+
+/// Keeps the better of two.
+fn keep<const N: usize>(kept: &mut [f64; N], times: [f64; N]) {
+    kept.iter_mut().zip(times).for_each(|(kept, time)| *kept = kept.min(time));
+}
+
+const LENGTHS: [usize; 10] = [0, 1, 10, 50, 100, 200, 400, 800, 1200, 1596];
+
+/// The best times: of sheets by length, adds by position, a total, a report, opening.
+struct Best {
+    sheets: [[f64; 3]; LENGTHS.len()],
+    adds: [[f64; 10]; 3],
+    total: [f64; 3],
+    report: [f64; 3],
+    open: [f64; 3],
+}
+
+/// Measures everything once more.
+fn pass(best_of: &mut Best, inputs: &Inputs, (ours, a, b): &(c::Run, plain::Run, tuned::Run), repetitions: usize) {
+    let mut buffers = [[0u8; c::REPORT_BYTES]; 3];
+    let [buffer, buffer_a, buffer_b] = &mut buffers;
+    for (n, kept) in LENGTHS.into_iter().zip(&mut best_of.sheets) {
+        let texts = sheet_texts(inputs, n);
+        for text in &texts {
+            let lengths = [our_sheet(text, buffer), plain_sheet(text, buffer_a), tuned_sheet(text, buffer_b)];
+            assert!(lengths == [lengths[0]; 3] && buffer == buffer_a && buffer == buffer_b, "sheets differ at {n} records");
+        }
+        let [mut i, mut j, mut k] = [0; 3];
+        let times = best(repetitions, [
+            &mut || { black_box(our_sheet(next(&texts, &mut i), black_box(buffer))); },
+            &mut || { black_box(plain_sheet(next(&texts, &mut j), black_box(buffer_a))); },
+            &mut || { black_box(tuned_sheet(next(&texts, &mut k), black_box(buffer_b))); },
+        ]);
+        keep(kept, times);
+    }
+
+    for (kept, times) in best_of.adds.iter_mut().zip(adds(inputs, repetitions)) {
+        keep(kept, times);
+    }
+
+    let places: Vec<(u64, u64)> = (1..=3).flat_map(|f| (1..=5).map(move |q| (f, q))).collect();
+    let times = best(repetitions, [
+        &mut || places.iter().for_each(|&(f, q)| { black_box(c::haldurap_total(*black_box(ours), black_box(f), q)); }),
+        &mut || places.iter().for_each(|&(f, q)| { black_box(plain_total(black_box(a), black_box(f), q)); }),
+        &mut || places.iter().for_each(|&(f, q)| { black_box(tuned_total(black_box(b), black_box(f), q)); }),
+    ]);
+    keep(&mut best_of.total, times.map(|t| t / 15.0));
+
+    let lengths = [c::report(*ours, buffer).bytes, plain_report(a, buffer_a), tuned_report(b, buffer_b)];
+    assert!(lengths == [lengths[0]; 3] && buffer == buffer_a && buffer == buffer_b, "the three reports differ");
+    let times = best(repetitions, [
+        &mut || { black_box(c::report(*black_box(ours), black_box(buffer))); },
+        &mut || { black_box(plain_report(black_box(a), black_box(buffer_a))); },
+        &mut || { black_box(tuned_report(black_box(b), black_box(buffer_b))); },
+    ]);
+    keep(&mut best_of.report, times);
+
+    let mut fresh = tuned::ZERO;
+    let times = best(repetitions, [
+        &mut || inputs.c_heads.iter().for_each(|h| { black_box(c::haldurap_open(*black_box(h))); }),
+        &mut || inputs.heads.iter().for_each(|h| { black_box(plain_open(black_box(h))); }),
+        &mut || inputs.tuned_heads.iter().for_each(|h| { black_box(tuned_open(black_box(h), black_box(&mut fresh))); }),
+    ]);
+    keep(&mut best_of.open, times.map(|t| t / 64.0));
+}
+
+fn load() -> String {
+    std::fs::read_to_string("/proc/loadavg").unwrap_or_default().split(' ').take(3).collect::<Vec<_>>().join(" ")
+}
+
+fn main() {
+    let passes: usize = std::env::args().nth(1).map_or(6, |n| n.parse().expect("PASSES"));
+    let inputs = inputs();
+    let runs = full_runs(&inputs);
+    println!("load before: {}", load());
+    let mut b = Best { sheets: [[f64::MAX; 3]; LENGTHS.len()], adds: [[f64::MAX; 10]; 3], total: [f64::MAX; 3], report: [f64::MAX; 3], open: [f64::MAX; 3] };
+    for _ in 0..passes {
+        pass(&mut b, &inputs, &runs, 100);
+    }
+    println!("load after: {}", load());
+    println!("ns for one operation, the best of {passes} passes of 100 repetitions; (a) plain reference, (b) tuned by hand\n");
+    println!("{:<36}{:>12}{:>12}{:>12}{:>10}{:>10}", "", "archive", "(a)", "(b)", "to (a)", "to (b)");
+    for (n, name) in [(1, "1 record"), (100, "100 records"), (1596, "1,596 records")] {
+        row(&format!("sheet to report, {name}"), b.sheets[LENGTHS.iter().position(|&l| l == n).unwrap()]);
+    }
+    row("add, up to 5,000", b.adds.map(|p| p.iter().sum::<f64>() / 10.0));
+    row("total of a full run", b.total);
+    row("report of a full run", b.report);
+    row("opening", b.open);
+
+    println!("\nadds by position in the run, ns an add");
+    for part in 0..10 {
+        let p = b.adds.map(|p| p[part]);
+        println!("{:<36}{:>12.1}{:>12.1}{:>12.1}{:>10.2}{:>10.2}", format!("{} to {}", part * 500 + 1, part * 500 + 500), p[0], p[1], p[2], p[0] / p[1], p[0] / p[2]);
+    }
+    println!("\nsheets by length, ns a record beyond what the head alone takes (the first records bring the lines of the report too)");
+    let head = b.sheets[0];
+    println!("{:<36}{:>12.1}{:>12.1}{:>12.1}", "the head alone, ns", head[0], head[1], head[2]);
+    for (n, times) in LENGTHS.into_iter().zip(b.sheets).skip(1) {
+        let each: Vec<f64> = (0..3).map(|i| (times[i] - head[i]) / n as f64).collect();
+        println!("{n:<36}{:>12.1}{:>12.1}{:>12.1}{:>10.2}{:>10.2}", each[0], each[1], each[2], each[0] / each[1], each[0] / each[2]);
+    }
+}

@@ -1,0 +1,349 @@
+//! The reference of tests/differential tuned by hand: 64-bit numbers only, runs changed in place, texts read and written
+//! where they stand, nothing copied, nothing allocated, a run that was just made not tested for order again. The same
+//! answers: bench/main.rs compares them before it measures.
+
+#[derive(Clone, PartialEq)]
+pub struct Run {
+    pub trip: u64,
+    pub x: [u64; 15],
+    pub count: u64,
+    pub km: [u64; 3],
+    pub grams: [u64; 60],
+    pub rests: [u64; 60],
+}
+
+pub const ZERO: Run = Run { trip: 0, x: [0; 15], count: 0, km: [0; 3], grams: [0; 60], rests: [0; 60] };
+
+pub struct Head {
+    pub trip: u64,
+    pub temps: [i64; 12],
+}
+
+pub struct Record {
+    pub class: u64,
+    pub vehicles: u64,
+    pub km: u64,
+    pub shares: [u64; 3],
+    pub speeds: [u64; 3],
+}
+
+const BILLION: u64 = 1_000_000_000;
+const TRILLION: u64 = 1_000_000_000_000;
+
+/// By class and quantity; class 5 is not a curve.
+static CURVES: [[[i64; 3]; 5]; 7] = [
+    [[110400, -15132000, 577890000], [900, -79000, 19391000], [6770, -1170000, 54734000], [0, 0, 0], [187000, -26974000, 1567700000]],
+    [[6000, -475000, 22195000], [575, -54800, 4880000], [700, -67000, 2406000], [0, 0, 0], [187000, -26974000, 1567700000]],
+    [[4200, -332500, 15536500], [253, -24112, 2147200], [308, -29480, 1058640], [0, 0, 0], [187000, -26974000, 1567700000]],
+    [[11000, -1165000, 42098000], [400, -63000, 5278000], [1000, -166000, 7431000], [0, 0, 0], [72000, -9250000, 746250000]],
+    [[0, 0, 0]; 5],
+    [[2000, -256000, 18281000], [1400, -159200, 14921000], [660, -113000, 6024000], [125, -5770, 2880000], [233000, -25646000, 1362200000]],
+    [[2000, -313000, 17838000], [1270, -167400, 9037000], [281, -65000, 4505000], [400, -55000, 2687000], [153000, -21810000, 1527400000]],
+];
+static TWO_STROKE: [[u64; 3]; 5] =
+    [[207000000, 75000000, 87000000], [3000000, 10000000, 7500000], [154000000, 72000000, 59000000], [0, 0, 0], [1115000000, 660000000, 569000000]];
+/// p - 10,000 and q by fuel and quantity.
+static RATIOS: [[i64; 2]; 15] = [
+    [27000, 90], [1400, 6], [18000, 60], [0, 0], [4700, 9],
+    [9000, 30], [3000, 13], [21000, 90], [21000, 100], [3400, 8],
+    [26600, 90], [-200, 6], [12400, 60], [0, 0], [4700, 9],
+];
+static FUELS: [usize; 7] = [0, 0, 0, 2, 0, 1, 1];
+
+/// Opens a run in place, which is all zeros before; a refused head leaves it so.
+pub fn open(head: &Head, run: &mut Run) -> u64 {
+    if head.trip < 10 || 200 < head.trip {
+        return 1;
+    }
+    for &t in &head.temps {
+        if t < -300 || 400 < t {
+            return 2;
+        }
+    }
+    let l = head.trip as i64;
+    let (start, slope) = (64_700_000 - 250_000 * l, 97_400 - 385 * l);
+    let mut sums = [0i64; 15];
+    for &t in &head.temps {
+        let b = start - slope * t;
+        for i in 0..15 {
+            sums[i] += b * (RATIOS[i][0] - RATIOS[i][1] * t).max(0);
+        }
+    }
+    for i in 0..15 {
+        run.x[i] = (sums[i] as u64 + 6_000) / 12_000;
+    }
+    run.trip = head.trip;
+    0
+}
+
+pub fn in_order(run: &Run) -> bool {
+    if run.trip < 10 || 200 < run.trip || 5000 < run.count {
+        return false;
+    }
+    for &x in &run.x {
+        if 4_900_000_000 < x {
+            return false;
+        }
+    }
+    for &km in &run.km {
+        if BILLION * run.count < km {
+            return false;
+        }
+    }
+    let limit = TRILLION * run.count;
+    for j in 0..60 {
+        let (g, s) = (run.grams[j], run.rests[j]);
+        if s >= BILLION || g > limit || (g == limit && s > 0) {
+            return false;
+        }
+    }
+    true
+}
+
+fn record_fault(r: &Record) -> u64 {
+    if r.class.wrapping_sub(1) > 6 {
+        return 3;
+    }
+    if r.vehicles.wrapping_sub(1) > 999_999 {
+        return 4;
+    }
+    if r.km.wrapping_sub(1) > 999_998 {
+        return 5;
+    }
+    if BILLION < r.vehicles * r.km {
+        return 6;
+    }
+    let [a, b, c] = r.shares;
+    if a > 100 || b > 100 || c > 100 || a + b + c != 100 {
+        return 7;
+    }
+    for &v in &r.speeds {
+        if v.wrapping_sub(10) > 120 {
+            return 8;
+        }
+    }
+    0
+}
+
+pub fn add(run: &mut Run, r: &Record) -> u64 {
+    if !in_order(run) {
+        return 16;
+    }
+    add_in_order(run, r)
+}
+
+/// Adds to a run that is known to be in order.
+#[inline]
+fn add_in_order(run: &mut Run, r: &Record) -> u64 {
+    let number = record_fault(r);
+    if number != 0 {
+        return number;
+    }
+    if run.count >= 5000 {
+        return 9;
+    }
+    let class = r.class as usize - 1;
+    let fuel = FUELS[class];
+    let k = r.vehicles * r.km;
+    let grams = &mut run.grams[fuel * 20..fuel * 20 + 20];
+    let rests = &mut run.rests[fuel * 20..fuel * 20 + 20];
+    // K × share split at 10^9, once for the five quantities
+    let parts = r.shares.map(|s| (k * s / BILLION, k * s % BILLION));
+    let mut put = |j: usize, g: u64, s: u64| {
+        let s = rests[j] + s;
+        let carry = (s >= BILLION) as u64;
+        grams[j] += g + carry;
+        rests[j] = s - carry * BILLION;
+    };
+    if class == 4 {
+        for q in 0..5 {
+            for road in 0..3 {
+                let e = TWO_STROKE[q][road];
+                let low = parts[road].1 * e;
+                put(q * 4 + road, parts[road].0 * e + low / BILLION, low % BILLION);
+            }
+        }
+    } else {
+        for q in 0..5 {
+            let [a, b, c] = CURVES[class][q];
+            let e = r.speeds.map(|v| ((a * v as i64 + b) * v as i64 + c) as u64);
+            for road in 0..3 {
+                let low = parts[road].1 * e[road];
+                put(q * 4 + road, parts[road].0 * e[road] + low / BILLION, low % BILLION);
+            }
+            let cold = k * ((e[0] * run.x[fuel * 5 + q] + BILLION / 2) / BILLION);
+            put(q * 4 + 3, cold / 10_000_000, cold % 10_000_000 * 100);
+        }
+    }
+    run.km[fuel] += k;
+    run.count += 1;
+    0
+}
+
+/// The printed total of a place in order.
+fn total_at(run: &Run, place: usize) -> u64 {
+    let (g, s) = (&run.grams[place * 4..place * 4 + 4], &run.rests[place * 4..place * 4 + 4]);
+    g[0] + g[1] + g[2] + g[3] + (s[0] + s[1] + s[2] + s[3] + BILLION / 2) / BILLION
+}
+
+/// The number and the printed total.
+pub fn total(run: &Run, fuel: u64, quantity: u64) -> (u64, u64) {
+    if !in_order(run) {
+        return (16, 0);
+    }
+    if fuel.wrapping_sub(1) > 2 || quantity.wrapping_sub(1) > 4 {
+        return (11, 0);
+    }
+    (0, total_at(run, (fuel as usize - 1) * 5 + quantity as usize - 1))
+}
+
+/// A number right-justified in a field of spaces.
+#[inline]
+fn put_number(field: &mut [u8], mut n: u64) {
+    let mut i = field.len();
+    loop {
+        i -= 1;
+        field[i] = b'0' + (n % 10) as u8;
+        n /= 10;
+        if n == 0 {
+            return;
+        }
+    }
+}
+
+/// The number and the length.
+pub fn report(run: &Run, buffer: &mut [u8]) -> (u64, usize) {
+    if !in_order(run) {
+        return (16, 0);
+    }
+    report_in_order(run, buffer)
+}
+
+fn report_in_order(run: &Run, buffer: &mut [u8]) -> (u64, usize) {
+    let mut totals = [0; 15];
+    let mut length = 0;
+    for place in 0..15 {
+        totals[place] = total_at(run, place);
+        length += if totals[place] == 0 { 0 } else { 97 };
+    }
+    if buffer.len() < length {
+        return (14, 0);
+    }
+    let mut lines = buffer.chunks_exact_mut(97);
+    for place in 0..15 {
+        if totals[place] == 0 {
+            continue;
+        }
+        let line = lines.next().unwrap();
+        line.fill(b' ');
+        line[1] = b'1' + (place / 5) as u8;
+        line[2..6].copy_from_slice([b"  CO", b" NOX", b" VOC", b"  PM", b"  FC"][place % 5]);
+        for kind in 0..4 {
+            let j = place * 4 + kind;
+            put_number(&mut line[6 + kind * 18..24 + kind * 18], run.grams[j] + (run.rests[j] >= BILLION / 2) as u64);
+        }
+        put_number(&mut line[78..96], totals[place]);
+        line[96] = b'\n';
+    }
+    (0, length)
+}
+
+/// A number of a sheet without sign; None where the field is no such number.
+#[inline]
+fn take_number(field: &[u8]) -> Option<u64> {
+    let mut i = 0;
+    while i < field.len() && field[i] == b' ' {
+        i += 1;
+    }
+    // at least one digit, and a nought only alone
+    if i == field.len() || (field[i] == b'0' && i + 1 < field.len()) {
+        return None;
+    }
+    let mut n = 0;
+    for &b in &field[i..] {
+        let d = b.wrapping_sub(b'0');
+        if d > 9 {
+            return None;
+        }
+        n = n * 10 + d as u64;
+    }
+    Some(n)
+}
+
+/// The same with a minus before a number that is not 0.
+#[inline]
+fn take_signed(field: &[u8]) -> Option<i64> {
+    let minus = field.iter().position(|&b| b != b' ').filter(|&i| field[i] == b'-');
+    match minus {
+        None => take_number(field).map(|n| n as i64),
+        Some(i) => match take_number(&field[i + 1..]) {
+            Some(n) if n != 0 && field[i + 1] != b' ' => Some(-(n as i64)),
+            _ => None,
+        },
+    }
+}
+
+fn take_head(line: &[u8]) -> Option<Head> {
+    let mut head = Head { trip: take_number(&line[..5])?, temps: [0; 12] };
+    for i in 0..12 {
+        head.temps[i] = take_signed(&line[5 + i * 5..10 + i * 5])?;
+    }
+    Some(head)
+}
+
+#[inline]
+fn take_record(line: &[u8; 41]) -> Option<Record> {
+    Some(Record {
+        class: take_number(&line[..2])?,
+        vehicles: take_number(&line[2..9])?,
+        km: take_number(&line[9..16])?,
+        shares: [take_number(&line[16..20])?, take_number(&line[20..24])?, take_number(&line[24..28])?],
+        speeds: [take_number(&line[28..32])?, take_number(&line[32..36])?, take_number(&line[36..40])?],
+    })
+}
+
+/// Reads a sheet into a run of zeros: the number and its line. A refused sheet leaves the run half filled.
+pub fn sheet(text: &[u8], run: &mut Run) -> (u64, usize) {
+    if text.len() < 66 || text[65] != b'\n' {
+        return (10, 1);
+    }
+    let Some(head) = take_head(&text[..65]) else { return (10, 1) };
+    let number = open(&head, run);
+    if number != 0 {
+        return (number, 1);
+    }
+    let lines = text[66..].chunks_exact(41);
+    let mut n = 2;
+    let rest = lines.remainder().len();
+    for line in lines {
+        let line: &[u8; 41] = line.try_into().unwrap();
+        if line[40] != b'\n' {
+            return (10, n);
+        }
+        let Some(record) = take_record(line) else { return (10, n) };
+        let number = add_in_order(run, &record);
+        if number != 0 {
+            return (number, n);
+        }
+        n += 1;
+    }
+    if rest == 0 { (0, 0) } else { (10, n) }
+}
+
+/// Sheet text to report text: the number and the length.
+pub fn report_sheet(text: &[u8], buffer: &mut [u8]) -> (u64, usize) {
+    let mut run = ZERO;
+    let (number, line) = if text.len() > 65_536 { (10, 1) } else { sheet(text, &mut run) };
+    if number == 0 {
+        return report_in_order(&run, buffer);
+    }
+    if buffer.len() < 17 {
+        return (14, 0);
+    }
+    buffer[..7].copy_from_slice(b"REFUSED");
+    buffer[7..16].fill(b' ');
+    put_number(&mut buffer[7..10], number);
+    put_number(&mut buffer[10..16], line as u64);
+    buffer[16] = b'\n';
+    (0, 17)
+}

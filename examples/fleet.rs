@@ -1,0 +1,84 @@
+//! Opens a run, adds a fleet, balances it against sold fuel and prints the report.
+//! Build it with examples/run.sh, or:
+//!     rustc --edition 2024 -O -o target/fleet_rust examples/fleet.rs -C link-arg=target/staticlib/libcapi.a
+#[path = "../include/haldurap.rs"]
+mod haldurap;
+use haldurap::*;
+
+const NAMES: [&str; 5] = ["CO", "NOX", "VOC", "PM", "FC"];
+
+/// Tonnes sold of each fuel.
+const SOLD: [u64; 3] = [1000, 4400, 210];
+
+fn record(class: u64, vehicles: u64, km: u64, shares: [u64; 3], speeds: [u64; 3]) -> Record {
+    let [urban, rural, highway] = shares;
+    let shares = Shares { urban, rural, highway };
+    let [urban, rural, highway] = speeds;
+    Record { class, vehicles, km, shares, speeds: Speeds { urban, rural, highway } }
+}
+
+/// A value, or the number of the refusal.
+fn taken<T>(number: u64, value: T) -> Result<T, String> {
+    if number == 0 { Ok(value) } else { Err(format!("refused with {number}")) }
+}
+
+fn main() -> Result<(), String> {
+    let layout = haldurap_layout();
+    if layout.version != LAYOUT || layout.size != size_of::<Run>() as u64 {
+        return Err("haldurap.rs does not fit this archive".into());
+    }
+
+    let opened = haldurap_open(Head { trip: 120, temps: [100; 12] });
+    let mut run = taken(opened.number, opened.run)?;
+
+    let fleet = [
+        record(2, 1000, 10000, [40, 40, 20], [20, 60, 100]),
+        record(6, 2500, 18000, [30, 45, 25], [25, 70, 110]),
+        record(4, 300, 12000, [55, 30, 15], [30, 65, 95]),
+    ];
+    for part in fleet {
+        let added = haldurap_add(run, part);
+        run = taken(added.number, added.run)?;
+    }
+    println!("records: {}", run.count);
+
+    let mut buffer = [0; REPORT_BYTES];
+    let written = report(run, &mut buffer);
+    let length = taken(written.number, written.bytes)?;
+    print!("{}", str::from_utf8(&buffer[..length]).expect("a report is ASCII"));
+
+    // The same head and fleet as the text of a sheet give the same report.
+    let mut text = format!("{:5}{}\n", 120, "  100".repeat(12));
+    for r in fleet {
+        let Record { class, vehicles, km, shares, speeds } = r;
+        text += &format!("{class:2}{vehicles:7}{km:7}{:4}{:4}{:4}", shares.urban, shares.rural, shares.highway);
+        text += &format!("{:4}{:4}{:4}\n", speeds.urban, speeds.rural, speeds.highway);
+    }
+    let mut again = [0; REPORT_BYTES];
+    let read = report_sheet(text.as_bytes(), &mut again);
+    let same = taken(read.number, again[..read.bytes] == buffer[..length])?;
+    println!("from a sheet: {}", if same { "the same" } else { "another report" });
+
+    for fuel in 1..=3 {
+        let sold = SOLD[fuel as usize - 1];
+        for (name, quantity) in NAMES.iter().zip(1..) {
+            let b = haldurap_balance(run, fuel, quantity, sold);
+            let grams = taken(b.number, b.grams)?;
+            if quantity == 1 {
+                println!("fuel {fuel}: {sold} t sold, k {}", b.k);
+            }
+            println!("  {name} {grams} g");
+        }
+    }
+
+    // 1.8 hydrogen per carbon.
+    let co2 = haldurap_co2(run, 1, 1800);
+    println!("CO2 of gasoline: {} g", taken(co2.number, co2.grams)?);
+
+    // A refusal is a number, and the run is as it was.
+    let mut wrong = fleet[0];
+    wrong.speeds.highway = 131;
+    let refused = haldurap_add(run, wrong);
+    println!("131 km/h: refused with {}, records: {}", refused.number, refused.run.count);
+    Ok(())
+}

@@ -1,0 +1,256 @@
+/* haldurap.h: the proved COPERT II inventory core, for C and C++ (and for whatever can call C).
+
+   Hot and cold-start exhaust of seven vehicle classes, CO2, SO2 and lead from fuel, and the
+   balance against sold fuel. Build the archive with `rt staticlib capi` and link
+   target/staticlib/libcapi.a; it needs nothing but memcpy and memset.
+
+   How the calls work
+   ------------------
+   - Everything passes by value. A call changes nothing of the caller's but the buffer that is
+     lent to it; a new run comes back in the answer. Nothing is allocated, nothing static is
+     written, so calls from many threads need no lock. A call uses less than 16 KB of stack, the
+     arguments included.
+   - Every answer begins with a number: 0 if the call did what was asked, else the ground of the
+     refusal (the table below). In a refused answer every other value is 0, also the floats,
+     except that a refused add gives back the run as it came and a refused sheet gives its line.
+   - No call has a precondition on its numbers: any 64-bit value may be handed in, and what is out
+     of range is refused by number. What the caller owes is C's own: pointers that are not null
+     (also where the length is 0), memory of the stated length, a text that does not overlap the
+     buffer.
+   - Where several grounds fit, the first in this order is given: 16, then 11, then ascending.
+   - A run is plain data. It may be copied, compared by memcmp, stored and handed in again. It is
+     tested for order on every call (16), so a damaged one is refused and not believed.
+   - Later versions move the layout of a run. Compare haldurap_layout() with HALDURAP_LAYOUT and
+     sizeof(haldurap_run) before runs are kept in files, or a header and an archive are mixed.
+
+   Units: grams, vehicle kilometres and km/h are whole numbers; trip lengths are tenths of km,
+   temperatures tenths of a degree Celsius, shares percent.
+*/
+#ifndef HALDURAP_H
+#define HALDURAP_H
+
+#include <stddef.h>
+#include <stdint.h>
+
+#ifdef __cplusplus
+extern "C" {
+#endif
+
+/* The layout that this header describes; haldurap_layout() tells that of the archive. */
+#define HALDURAP_LAYOUT 1
+
+/* Limits. */
+#define HALDURAP_MOST_RECORDS 5000      /* records in a run */
+#define HALDURAP_MOST_TEXT 65536        /* bytes of text that haldurap_report_sheet reads */
+#define HALDURAP_LINE_BYTES 97          /* one line of a report, LF included */
+#define HALDURAP_REPORT_BYTES 1455      /* room enough for every report: 15 lines */
+#define HALDURAP_REFUSED_BYTES 17       /* the line REFUSED, LF included */
+#define HALDURAP_HEAD_BYTES 66          /* the first line of a sheet, LF included */
+#define HALDURAP_RECORD_BYTES 41        /* every other line of a sheet, LF included */
+
+/* The numbers of refusals. */
+enum haldurap_number {
+    HALDURAP_TAKEN = 0,             /* no ground fits */
+    HALDURAP_TRIP_LENGTH = 1,       /* L out of range (10 to 200) */
+    HALDURAP_TEMPERATURE = 2,       /* a T out of range (-300 to 400) */
+    HALDURAP_CLASS = 3,             /* class not 1 to 7 */
+    HALDURAP_VEHICLES = 4,          /* vehicles out of range (1 to 1,000,000) */
+    HALDURAP_KILOMETRES = 5,        /* km per vehicle out of range (1 to 999,999) */
+    HALDURAP_DISTANCE = 6,          /* vehicles x km over 1,000,000,000 */
+    HALDURAP_SHARES = 7,            /* a share over 100, or their sum not 100 */
+    HALDURAP_SPEED = 8,             /* a speed out of range (10 to 130), also where its share is 0 */
+    HALDURAP_FULL = 9,              /* the run has 5,000 records */
+    HALDURAP_LINE_SHAPE = 10,       /* a line of a sheet has a wrong shape */
+    HALDURAP_FUEL_OR_QUANTITY = 11, /* fuel not 1 to 3, or quantity not 1 to 5 */
+    HALDURAP_NO_FUEL_USED = 12,     /* the fuel used is 0 in a balance */
+    HALDURAP_SOLD_FUEL = 13,        /* sold fuel over 999,999,999 t, or k not 500,000 to 1,500,000 */
+    HALDURAP_SHORT_BUFFER = 14,     /* the buffer is shorter than what is to be written */
+    HALDURAP_FUEL_CONTENT = 15,     /* R over 4,000, s over 10,000 or l over 1,000 */
+    HALDURAP_RUN_ORDER = 16         /* the run is not in order (see haldurap_run) */
+};
+
+enum haldurap_fuel { HALDURAP_GASOLINE = 1, HALDURAP_DIESEL = 2, HALDURAP_LPG = 3 };
+
+/* FC is the fuel used; the others are what leaves the exhaust. */
+enum haldurap_quantity { HALDURAP_CO = 1, HALDURAP_NOX = 2, HALDURAP_VOC = 3, HALDURAP_PM = 4, HALDURAP_FC = 5 };
+
+/* What a run is opened with. 104 bytes. */
+typedef struct haldurap_head {
+    uint64_t trip;              /*   0  mean trip length L, tenths of km, 10 to 200 */
+    int64_t temps[12];          /*   8  mean temperature T of each month, tenths of a degree Celsius, -300 to 400 */
+} haldurap_head;
+
+/* The percent of the distance on each road; their sum is 100. 24 bytes. */
+typedef struct haldurap_shares {
+    uint64_t urban;             /*   0 */
+    uint64_t rural;             /*   8 */
+    uint64_t highway;           /*  16 */
+} haldurap_shares;
+
+/* The speed on each road, whole km/h, 10 to 130, wanted also where the share is 0. 24 bytes. */
+typedef struct haldurap_speeds {
+    uint64_t urban;             /*   0 */
+    uint64_t rural;             /*   8 */
+    uint64_t highway;           /*  16 */
+} haldurap_speeds;
+
+/* A part of the fleet. 72 bytes.
+   Classes: 1 gasoline van, conventional; 2 the same, 93/59; 3 the same, 96/69; 4 LPG, 91/441;
+   5 two-stroke (gasoline); 6 diesel van, conventional; 7 the same, 93/59. */
+typedef struct haldurap_record {
+    uint64_t vehicle_class;     /*   0  1 to 7 */
+    uint64_t vehicles;          /*   8  1 to 1,000,000 */
+    uint64_t km;                /*  16  km per vehicle, 1 to 999,999; vehicles x km is at most 1,000,000,000 */
+    haldurap_shares shares;     /*  24 */
+    haldurap_speeds speeds;     /*  48 */
+} haldurap_record;
+
+/* A run: what has been added up under one head. 1,120 bytes.
+   Take it from haldurap_open, haldurap_add and haldurap_sheet, and ask by the calls below.
+
+   It is in order if trip is 10 to 200, each x at most 4,900,000,000, count at most 5,000, each rest
+   below 1,000,000,000, each sum with its rest at most 10^12 g x count, and the kilometres of each
+   fuel at most 10^9 x count. A run that is not in order gives 16 from every call. */
+typedef struct haldurap_run {
+    uint64_t trip;              /*   0  L of the head */
+    uint64_t x[15];             /*   8  cold-start values X, at (fuel - 1) x 5 + quantity - 1 */
+    uint64_t count;             /* 128  records added */
+    uint64_t km[3];             /* 136  vehicle kilometres of each fuel, at fuel - 1 */
+    uint64_t grams[60];         /* 160  whole grams, at (fuel - 1) x 20 + (quantity - 1) x 4 + kind;
+                                        kind is 0 urban, 1 rural, 2 highway, 3 cold */
+    uint64_t rests[60];         /* 640  the rest of each sum, billionths of a gram, at the same place */
+} haldurap_run;
+
+/* A number and a run. 1,128 bytes. */
+typedef struct haldurap_run_answer {
+    uint64_t number;            /*   0 */
+    haldurap_run run;           /*   8 */
+} haldurap_run_answer;
+
+/* A number and grams. 16 bytes. */
+typedef struct haldurap_grams_answer {
+    uint64_t number;            /*   0 */
+    uint64_t grams;             /*   8  0 where refused */
+} haldurap_grams_answer;
+
+/* A number, the balance's factor and the balanced total. 24 bytes. */
+typedef struct haldurap_balance_answer {
+    uint64_t number;            /*   0 */
+    uint64_t k;                 /*   8  sold over used fuel, millionths, 500,000 to 1,500,000; 0 where refused */
+    uint64_t grams;             /*  16  the balanced total, grams; 0 where refused */
+} haldurap_balance_answer;
+
+/* A number and how many bytes were written. 16 bytes. */
+typedef struct haldurap_length_answer {
+    uint64_t number;            /*   0 */
+    size_t bytes;               /*   8  0 where refused */
+} haldurap_length_answer;
+
+/* A number and a row for the map: the printed kinds, each float exactly the whole grams. 40 bytes. */
+typedef struct haldurap_map_row_answer {
+    uint64_t number;            /*   0 */
+    double urban;               /*   8  0.0 where refused, as are the next three */
+    double rural;               /*  16 */
+    double highway;             /*  24 */
+    double cold;                /*  32 */
+} haldurap_map_row_answer;
+
+/* A number and one figure for the map. 24 bytes. */
+typedef struct haldurap_figure_answer {
+    uint64_t number;            /*   0 */
+    uint64_t given;             /*   8  1 if grams is a figure; 0 for the mark "not given", and where refused */
+    double grams;               /*  16  0.0 where given is 0 */
+} haldurap_figure_answer;
+
+/* A number, its line and the run of a sheet. 1,136 bytes. */
+typedef struct haldurap_sheet_answer {
+    uint64_t number;            /*   0 */
+    size_t line;                /*   8  the line that decided, from 1; 0 for a taken sheet */
+    haldurap_run run;           /*  16  the run of zeros where refused */
+} haldurap_sheet_answer;
+
+/* The version of the layout and the size of a run. 16 bytes. */
+typedef struct haldurap_layout_answer {
+    uint64_t version;           /*   0  HALDURAP_LAYOUT */
+    uint64_t size;              /*   8  sizeof(haldurap_run) */
+} haldurap_layout_answer;
+
+
+/* The layout that the archive was built with. Never refuses. */
+haldurap_layout_answer haldurap_layout(void);
+
+/* Opens a run: trip and the X of the head, no records, all sums 0.
+   Refuses 1, 2, and gives the run of zeros then (which is not in order). */
+haldurap_run_answer haldurap_open(haldurap_head head);
+
+/* Adds a record. The answer's run has one record more, its kilometres, and its grams in the twenty
+   sums of its fuel, exact to the billionth of a gram.
+   Refuses 16, then 3 to 9, and gives back the run as it came, byte for byte. So
+       a = haldurap_add(run, record); run = a.run;
+   is right whether the record was taken or not. */
+haldurap_run_answer haldurap_add(haldurap_run run, haldurap_record record);
+
+/* The printed total of a fuel and a quantity, grams: the exact sum of the four kinds, half up.
+   The printed kinds may miss it by up to 2 g. Refuses 16, 11. */
+haldurap_grams_answer haldurap_total(haldurap_run run, uint64_t fuel, uint64_t quantity);
+
+/* One printed kind of a fuel and a quantity, grams, half up: what was emitted hot on urban roads,
+   on rural roads, on highways, and by cold starts. Refuse 16, 11. */
+haldurap_grams_answer haldurap_urban(haldurap_run run, uint64_t fuel, uint64_t quantity);
+haldurap_grams_answer haldurap_rural(haldurap_run run, uint64_t fuel, uint64_t quantity);
+haldurap_grams_answer haldurap_highway(haldurap_run run, uint64_t fuel, uint64_t quantity);
+haldurap_grams_answer haldurap_cold(haldurap_run run, uint64_t fuel, uint64_t quantity);
+
+/* The balance against sold fuel, in tonnes (0 to 999,999,999). With F the printed total of FC of this
+   fuel, k = sold x 10^12 / F, half up, and the balanced total of the quantity is its printed total
+   x k / 1,000,000, half up. Refuses 16, 11, 12 (F is 0), 13 (sold over the limit, or k out of range). */
+haldurap_balance_answer haldurap_balance(haldurap_run run, uint64_t fuel, uint64_t quantity, uint64_t sold);
+
+/* From the fuel used F (the printed total of FC of this fuel), grams, half up; an F of 0 gives 0.
+   CO2 = 44,011,000 F / (12,011,000 + 1,008 R), R hydrogen per carbon in thousandths, 0 to 4,000
+   (gasoline 1,800). SO2 = 2 F s / 1,000,000, s sulphur in ppm by mass, 0 to 10,000.
+   Lead = 3 F l / 4,000,000, l lead in ppm by mass, 0 to 1,000.
+   Refuse 16, 11 (the fuel), 15 (R, s or l). */
+haldurap_grams_answer haldurap_co2(haldurap_run run, uint64_t fuel, uint64_t hydrogen);
+haldurap_grams_answer haldurap_so2(haldurap_run run, uint64_t fuel, uint64_t sulphur);
+haldurap_grams_answer haldurap_lead(haldurap_run run, uint64_t fuel, uint64_t lead);
+
+/* The four printed kinds as floats, each exactly the whole grams (below 2^53). Refuses 16, 11. */
+haldurap_map_row_answer haldurap_map_row(haldurap_run run, uint64_t fuel, uint64_t quantity);
+
+/* One field of that row, or the mark "not given" (given 0) for PM of gasoline and LPG.
+   Refuse 16, 11. */
+haldurap_figure_answer haldurap_figure_urban(haldurap_run run, uint64_t fuel, uint64_t quantity);
+haldurap_figure_answer haldurap_figure_rural(haldurap_run run, uint64_t fuel, uint64_t quantity);
+haldurap_figure_answer haldurap_figure_highway(haldurap_run run, uint64_t fuel, uint64_t quantity);
+haldurap_figure_answer haldurap_figure_cold(haldurap_run run, uint64_t fuel, uint64_t quantity);
+
+/* Writes the report into the buffer: a line of 97 bytes for each fuel and quantity whose printed
+   total is not 0, by fuel, then quantity: fuel (width 2), name (4), urban, rural, highway, cold,
+   total (18 each), right-justified with spaces, LF. No 0 byte is written behind it.
+   Gives the length in bytes (0 for a run without grams) and leaves the bytes behind it as they were.
+   Refuses 16, 14, and leaves the whole buffer as it was. HALDURAP_REPORT_BYTES is always enough. */
+haldurap_length_answer haldurap_report(haldurap_run run, uint8_t *buffer, size_t length);
+
+/* Reads a sheet of any length: lines ended by LF, the first with 13 numbers of width 5 (L, then T), the
+   others with class (width 2), vehicles (7), km (7), three shares and three speeds (4 each). Numbers
+   are right-justified with spaces, without leading zeros; a minus stands only before a T that is not
+   0. A head alone is a full sheet.
+   Gives number 0, line 0 and the run with all records. The first bad line decides: in line 1 number
+   10, then 1, 2; in the others 10, then 3 to 9; bytes after the last LF are a line of wrong shape, and
+   an empty text is 10 at line 1. A refused sheet gives the number, its line from 1, and the run of
+   zeros. The text is only read. */
+haldurap_sheet_answer haldurap_sheet(const uint8_t *text, size_t length);
+
+/* Reads a sheet and writes its report into the buffer, or, for a refused sheet, the one line `REFUSED`,
+   the number (width 3), its line (6), LF. A text of more than 65,536 bytes is refused as 10 at line 1.
+   Gives 0 and the length in bytes in both cases, and leaves the bytes behind it as they were.
+   Refuses 14 where there is no room for the report or the line, and leaves the whole buffer as it was.
+   HALDURAP_REPORT_BYTES is always enough. */
+haldurap_length_answer haldurap_report_sheet(const uint8_t *text, size_t text_length, uint8_t *buffer, size_t buffer_length);
+
+#ifdef __cplusplus
+}
+#endif
+
+#endif

@@ -1,0 +1,540 @@
+//! Holds the archive, through its C interface, against the plain implementation of document 01 in reference.rs: the same
+//! random and boundary inputs to both, and every value and every byte compared. Prints what was tried by number, and how
+//! many differences there were; exits 1 on any.
+//!
+//!     differential [--small] [--seed N]
+//!
+//! --small tries a hundredth of it, for valgrind.
+#[path = "../../include/haldurap.rs"]
+mod haldurap;
+mod random;
+mod reference;
+
+use haldurap as c;
+use random::Random;
+use reference as plain;
+use std::fmt::Debug;
+
+// ---- The same values on both sides
+
+fn c_head(head: &plain::Head) -> c::Head {
+    c::Head { trip: head.trip, temps: head.temps }
+}
+
+fn c_record(r: &plain::Record) -> c::Record {
+    let ([u, v, w], [a, b, d]) = (r.shares, r.speeds);
+    c::Record {
+        class: r.class,
+        vehicles: r.vehicles,
+        km: r.km,
+        shares: c::Shares { urban: u, rural: v, highway: w },
+        speeds: c::Speeds { urban: a, rural: b, highway: d },
+    }
+}
+
+fn c_run(run: &plain::Run) -> c::Run {
+    let sums = run.sums.as_flattened().as_flattened();
+    c::Run {
+        trip: run.trip,
+        x: run.x.as_flattened().try_into().unwrap(),
+        count: run.count,
+        km: run.km,
+        grams: std::array::from_fn(|i| sums[i].grams),
+        rests: std::array::from_fn(|i| sums[i].rest),
+    }
+}
+
+fn plain_run(run: &c::Run) -> plain::Run {
+    let mut r = plain::Run { trip: run.trip, count: run.count, km: run.km, ..plain::Run::default() };
+    r.x.as_flattened_mut().copy_from_slice(&run.x);
+    for (i, sum) in r.sums.as_flattened_mut().as_flattened_mut().iter_mut().enumerate() {
+        *sum = plain::Sum { grams: run.grams[i], rest: run.rests[i] };
+    }
+    r
+}
+
+/// Word i of a run: 0 trip, 1 to 15 x, 16 count, 17 to 19 km, 20 to 79 grams, 80 to 139 rests.
+fn word(run: &mut c::Run, i: usize) -> &mut u64 {
+    match i {
+        0 => &mut run.trip,
+        1..=15 => &mut run.x[i - 1],
+        16 => &mut run.count,
+        17..=19 => &mut run.km[i - 17],
+        20..=79 => &mut run.grams[i - 20],
+        _ => &mut run.rests[i - 80],
+    }
+}
+
+/// The largest value of word i in a run with this count, the other words being 0.
+fn limit(i: usize, count: u64) -> u64 {
+    match i {
+        0 => 200,
+        1..=15 => 4_900_000_000,
+        16 => 5000,
+        17..=19 => 1_000_000_000 * count,
+        20..=79 => 1_000_000_000_000 * count,
+        _ => 999_999_999,
+    }
+}
+
+// ---- Counting
+
+const CALLS: [&str; 20] = [
+    "layout", "open", "add", "total", "urban", "rural", "highway", "cold", "balance", "co2", "so2", "lead", "map_row",
+    "figure_urban", "figure_rural", "figure_highway", "figure_cold", "report", "sheet", "report_sheet",
+];
+const LAYOUT: usize = 0;
+const OPEN: usize = 1;
+const ADD: usize = 2;
+const TOTAL: usize = 3;
+const KINDS: usize = 4;
+const BALANCE: usize = 8;
+const CO2: usize = 9;
+const SO2: usize = 10;
+const LEAD: usize = 11;
+const MAP_ROW: usize = 12;
+const FIGURES: usize = 13;
+const REPORT: usize = 17;
+const SHEET: usize = 18;
+const REPORT_SHEET: usize = 19;
+
+struct Held {
+    /// By call and number.
+    tried: [[u64; 17]; CALLS.len()],
+    not_given: u64,
+    buffers: u64,
+    out_of_order: u64,
+    edits: [[u64; 17]; random::EDITS.len()],
+    differences: u64,
+}
+
+impl Held {
+    /// Counts one answer, and compares it with what the reference says.
+    fn same<T: PartialEq + Debug>(&mut self, call: usize, number: u64, ours: T, theirs: T, input: impl FnOnce() -> String) {
+        if number <= 16 {
+            self.tried[call][number as usize] += 1;
+        }
+        if ours != theirs {
+            self.differences += 1;
+            if self.differences <= 20 {
+                println!("DIFFERENCE in {}: {}\n  archive   {ours:?}\n  reference {theirs:?}", CALLS[call], input());
+            }
+        }
+    }
+
+    fn of(&self, call: usize) -> u64 {
+        self.tried[call].iter().sum()
+    }
+}
+
+fn number_of<T>(r: &Result<T, u64>) -> u64 {
+    match r {
+        Ok(_) => 0,
+        Err(n) => *n,
+    }
+}
+
+fn grams(r: &Result<u64, u64>) -> c::GramsAnswer {
+    c::GramsAnswer { number: number_of(r), grams: r.unwrap_or(0) }
+}
+
+// ---- Opening and adding
+
+/// Opens both ways.
+fn open(held: &mut Held, head: &plain::Head) -> Option<(c::Run, plain::Run)> {
+    let ours = c::haldurap_open(c_head(head));
+    let theirs = plain::open(head);
+    let run = theirs.clone().unwrap_or_default();
+    held.same(OPEN, number_of(&theirs), ours, c::RunAnswer { number: number_of(&theirs), run: c_run(&run) }, || format!("{head:?}"));
+    theirs.ok().map(|run| (ours.run, run))
+}
+
+/// Adds both ways: each add gets the run that the add before it gave back, refused or not.
+fn add(held: &mut Held, ours: &mut c::Run, theirs: &mut plain::Run, record: &plain::Record) -> u64 {
+    let before = *ours;
+    let answer = c::haldurap_add(before, c_record(record));
+    let number = number_of(&theirs.add(record));
+    held.same(ADD, number, answer, c::RunAnswer { number, run: c_run(theirs) }, || format!("{record:?} to {before:?}"));
+    *ours = answer.run;
+    number
+}
+
+fn any_record(r: &mut Random) -> plain::Record {
+    if r.one_in(8) { random::damaged_record(r) } else { random::good_record(r) }
+}
+
+// ---- Questions
+
+type GramsCall = extern "C" fn(c::Run, u64, u64) -> c::GramsAnswer;
+type FigureCall = extern "C" fn(c::Run, u64, u64) -> c::FigureAnswer;
+
+fn kinds() -> [GramsCall; 4] {
+    [c::haldurap_urban, c::haldurap_rural, c::haldurap_highway, c::haldurap_cold]
+}
+
+fn figures() -> [FigureCall; 4] {
+    [c::haldurap_figure_urban, c::haldurap_figure_rural, c::haldurap_figure_highway, c::haldurap_figure_cold]
+}
+
+/// Total, the four kinds, the map's row and its four figures, of one fuel and quantity. Floats are compared bit by bit.
+fn ask_place(held: &mut Held, ours: c::Run, run: &plain::Run, fuel: u64, quantity: u64) {
+    let input = || format!("fuel {fuel} quantity {quantity} of {ours:?}");
+    let total = run.total(fuel, quantity);
+    held.same(TOTAL, number_of(&total), c::haldurap_total(ours, fuel, quantity), grams(&total), input);
+    for kind in 0..4 {
+        let printed = run.kind(fuel, quantity, kind);
+        held.same(KINDS + kind, number_of(&printed), kinds()[kind](ours, fuel, quantity), grams(&printed), input);
+    }
+    let row = run.map_row(fuel, quantity);
+    let a = c::haldurap_map_row(ours, fuel, quantity);
+    let floats = [a.urban, a.rural, a.highway, a.cold].map(f64::to_bits);
+    held.same(MAP_ROW, number_of(&row), (a.number, floats), (number_of(&row), row.unwrap_or([0.0; 4]).map(f64::to_bits)), input);
+    for kind in 0..4 {
+        let figure = run.figure(fuel, quantity, kind);
+        let a = figures()[kind](ours, fuel, quantity);
+        let number = number_of(&figure);
+        let given = figure.unwrap_or(None);
+        held.not_given += (number == 0 && given.is_none()) as u64;
+        let theirs = (number, given.is_some() as u64, given.unwrap_or(0.0).to_bits());
+        held.same(FIGURES + kind, number, (a.number, a.given, a.grams.to_bits()), theirs, input);
+    }
+}
+
+fn ask_balance(held: &mut Held, ours: c::Run, run: &plain::Run, fuel: u64, quantity: u64, sold: u64) {
+    let b = run.balance(fuel, quantity, sold);
+    let (k, grams) = b.unwrap_or((0, 0));
+    let theirs = c::BalanceAnswer { number: number_of(&b), k, grams };
+    held.same(BALANCE, number_of(&b), c::haldurap_balance(ours, fuel, quantity, sold), theirs, || {
+        format!("fuel {fuel} quantity {quantity} sold {sold} of {ours:?}")
+    });
+}
+
+fn ask_from_fuel(held: &mut Held, ours: c::Run, run: &plain::Run, fuel: u64, content: u64) {
+    let input = || format!("fuel {fuel} content {content} of {ours:?}");
+    let theirs = run.co2(fuel, content);
+    held.same(CO2, number_of(&theirs), c::haldurap_co2(ours, fuel, content), grams(&theirs), input);
+    let theirs = run.so2(fuel, content);
+    held.same(SO2, number_of(&theirs), c::haldurap_so2(ours, fuel, content), grams(&theirs), input);
+    let theirs = run.lead(fuel, content);
+    held.same(LEAD, number_of(&theirs), c::haldurap_lead(ours, fuel, content), grams(&theirs), input);
+}
+
+/// A report into a buffer of this length, all its bytes compared.
+fn ask_report(held: &mut Held, r: &mut Random, ours: c::Run, run: &plain::Run, length: usize) {
+    let mut buffer = r.bytes(length).into_boxed_slice();
+    let mut expected = buffer.clone();
+    let theirs = run.write_report(&mut expected);
+    let a = c::report(ours, &mut buffer);
+    held.buffers += 1;
+    let wanted = c::LengthAnswer { number: number_of(&theirs), bytes: theirs.unwrap_or(0) };
+    held.same(REPORT, wanted.number, (a, &buffer), (wanted, &expected), || format!("{length} bytes of buffer for {ours:?}"));
+}
+
+const FUELS: [u64; 8] = [0, 1, 2, 3, 4, 256 + 1, (1 << 32) + 1, u64::MAX];
+const QUANTITIES: [u64; 10] = [0, 1, 2, 3, 4, 5, 6, 256 + 5, (1 << 32) + 5, u64::MAX];
+
+/// Every question.
+fn ask_all(held: &mut Held, r: &mut Random, ours: c::Run, run: &plain::Run) {
+    for fuel in 1..=3 {
+        for quantity in 1..=5 {
+            ask_place(held, ours, run, fuel, quantity);
+        }
+    }
+    for _ in 0..3 {
+        let (fuel, quantity) = (r.of(&FUELS), r.of(&QUANTITIES));
+        ask_place(held, ours, run, fuel, quantity);
+        ask_balance(held, ours, run, fuel, quantity, 1000);
+    }
+    for fuel in 1..=3 {
+        // around the S at which k comes to 500,000, 1,000,000 and 1,500,000, and the ends of S
+        let used = run.total(fuel, 5).unwrap_or(0);
+        for share in [1, 2, 3] {
+            let s = used / 2_000_000 * share;
+            for sold in s.saturating_sub(1)..=s + 2 {
+                ask_balance(held, ours, run, fuel, r.from_to(1, 5), sold);
+            }
+        }
+        for sold in [0, 1, 999_999_999, 1_000_000_000, u64::MAX, used, r.scaled(0, 999_999_999)] {
+            ask_balance(held, ours, run, fuel, r.from_to(1, 5), sold);
+        }
+        for quantity in 1..=5 {
+            let low = used / 2_000_000;
+            let sold = r.from_to(low, low * 3 + 1);
+            ask_balance(held, ours, run, fuel, quantity, sold);
+        }
+        for content in [0, 1, 1000, 1001, 1800, 4000, 4001, 10_000, 10_001, u64::MAX, r.from_to(0, 1000), r.from_to(0, 10_000)] {
+            ask_from_fuel(held, ours, run, fuel, content);
+        }
+    }
+    let fuel = r.of(&FUELS);
+    let content = r.of(&[0, 500, 1001, 4001, 10_001, u64::MAX]);
+    ask_from_fuel(held, ours, run, fuel, content);
+    let exact = run.report().map_or(0, |text| text.len());
+    for length in [exact, exact.saturating_sub(1), exact + 1, exact + r.place(200), r.place(exact + 1), 0] {
+        ask_report(held, r, ours, run, length);
+    }
+}
+
+// ---- Runs out of order
+
+/// A run with one word beyond its limit: 16 from every call, and nothing changed.
+fn ask_out_of_order(held: &mut Held, r: &mut Random, bad: c::Run, what: &dyn Fn() -> String) {
+    let run = plain_run(&bad);
+    assert!(!run.in_order(), "{}", what());
+    held.out_of_order += 1;
+    let (fuel, quantity) = (r.of(&FUELS), r.of(&QUANTITIES));
+    let record = any_record(r);
+    let (mut ours, mut theirs) = (bad, run.clone());
+    let n = add(held, &mut ours, &mut theirs, &record);
+    if n != 16 || ours != bad || theirs != run {
+        held.differences += 1;
+        println!("DIFFERENCE: a run out of order was not given back as it came: {}", what());
+    }
+    ask_place(held, bad, &run, r.from_to(1, 3), r.from_to(1, 5));
+    ask_place(held, bad, &run, fuel, quantity);
+    ask_balance(held, bad, &run, r.from_to(1, 3), r.from_to(1, 5), 1000);
+    ask_balance(held, bad, &run, fuel, quantity, r.of(&[0, 1000, u64::MAX]));
+    ask_from_fuel(held, bad, &run, fuel, r.of(&[0, 100, u64::MAX]));
+    for length in [0, 388, c::REPORT_BYTES + 9] {
+        ask_report(held, r, bad, &run, length);
+    }
+}
+
+fn out_of_order(held: &mut Held, r: &mut Random, run: &c::Run) {
+    for i in 0..140 {
+        let most = limit(i, run.count);
+        let values = [most + 1, most + 1 + r.scaled(0, 1 << 40), 1 << 63, u64::MAX];
+        for value in values.iter().chain(if i == 0 { &[0u64, 9][..] } else { &[][..] }) {
+            let mut bad = *run;
+            *word(&mut bad, i) = *value;
+            ask_out_of_order(held, r, bad, &|| format!("word {i} is {value}"));
+        }
+        // a sum at its limit with a rest, and rests of whole sums below
+        if (20..80).contains(&i) {
+            let mut bad = *run;
+            *word(&mut bad, i) = most;
+            *word(&mut bad, i + 60) = r.of(&[1, 999_999_999]);
+            ask_out_of_order(held, r, bad, &|| format!("word {i} is {most} with a rest"));
+        }
+        // exactly at the limit: in order, and both sides say so
+        let mut edge = *run;
+        *word(&mut edge, i) = most;
+        if (20..80).contains(&i) {
+            *word(&mut edge, i + 60) = 0;
+        }
+        let edge_run = plain_run(&edge);
+        ask_place(held, edge, &edge_run, r.from_to(1, 3), r.from_to(1, 5));
+    }
+    // fewer records than the sums and kilometres need
+    let mut bad = *run;
+    while plain_run(&bad).in_order() && bad.count > 0 {
+        bad.count /= 2;
+    }
+    if !plain_run(&bad).in_order() {
+        ask_out_of_order(held, r, bad, &|| "count too small for the sums".into());
+    }
+}
+
+// ---- Sheets
+
+fn ask_sheet(held: &mut Held, r: &mut Random, text: &[u8], edit: usize) {
+    let kept = text.to_vec();
+    let theirs = plain::sheet(text);
+    let (number, line) = theirs.as_ref().err().map_or((0, 0), |b| (b.number, b.line));
+    let input = || format!("{} ({}): {:?}", random::EDITS[edit], text.len(), String::from_utf8_lossy(&text[..text.len().min(1000)]));
+    let a = c::sheet(text);
+    let run = theirs.unwrap_or_default();
+    held.edits[edit][number as usize] += 1;
+    held.same(SHEET, number, a, c::SheetAnswer { number, line, run: c_run(&run) }, input);
+    let wanted = plain::sheet_report(text);
+    let exact = wanted.len();
+    let short = exact.saturating_sub(1);
+    for length in [exact, short, exact + 1 + r.place(100), r.place(exact + 1)] {
+        let mut buffer = r.bytes(length).into_boxed_slice();
+        let mut expected = buffer.clone();
+        let theirs = plain::write_sheet_report(text, &mut expected);
+        let a = c::report_sheet(text, &mut buffer);
+        held.buffers += 1;
+        let wanted = c::LengthAnswer { number: number_of(&theirs), bytes: theirs.unwrap_or(0) };
+        held.same(REPORT_SHEET, wanted.number, (a, &buffer), (wanted, &expected), || format!("{length} bytes of buffer, {}", input()));
+    }
+    if text != kept {
+        held.differences += 1;
+        println!("DIFFERENCE: the text was changed");
+    }
+}
+
+fn sheets(held: &mut Held, r: &mut Random, times: u64) {
+    for i in 0..times {
+        let edit = i as usize % random::EDITS.len();
+        let n = match r.below(100) {
+            0 => r.from_to(100, 300),
+            1..=8 => r.from_to(20, 60),
+            _ => r.from_to(0, 7),
+        };
+        let text = random::sheet(r, n as usize, edit);
+        ask_sheet(held, r, &text, edit);
+    }
+    // the longest that the program reads, one record more, and full runs
+    for n in [1595, 1596, 1597, 4999, 5000, 5001, 5002, 5100] {
+        let edits = if times > 100_000 { &[0, 1, 2, 5, 7, 8, 9, 10, 15][..] } else { &[0, 8][..] };
+        for &edit in edits {
+            let text = random::sheet(r, n, edit);
+            ask_sheet(held, r, &text, edit);
+        }
+    }
+    // exactly 65,536 bytes and one more, by bytes after the last LF
+    for n in [65_535, 65_536, 65_537] {
+        let mut text = random::sheet(r, 1596, 0);
+        text.resize(n, b' ');
+        ask_sheet(held, r, &text, 8);
+    }
+    // every length of the front of a sheet
+    let text = random::sheet(r, 2, 0);
+    for n in 0..=text.len() {
+        ask_sheet(held, r, &text[..n], 6);
+    }
+    // every byte value at every place of a sheet
+    let places = if times > 100_000 { 0..148 } else { 100..104 };
+    let text = random::sheet(r, 2, 0);
+    for i in places {
+        for b in 0..=255 {
+            let mut text = text.clone();
+            text[i] = b;
+            ask_sheet(held, r, &text, 2);
+        }
+    }
+}
+
+// ---- The numbers that document 01 prints
+
+fn printed_numbers(held: &mut Held) {
+    let head = plain::Head { trip: 120, temps: [100; 12] };
+    let record = plain::Record { class: 2, vehicles: 1000, km: 10_000, shares: [40, 40, 20], speeds: [20, 60, 100] };
+    let (mut ours, mut theirs) = open(held, &head).expect("document 01's head");
+    assert_eq!(add(held, &mut ours, &mut theirs, &record), 0);
+    let report = " 1  CO           6038000           6118000           6939000           8037182          27132182
+ 1 NOX           1605600           1464800           1030000             94987           4195387
+ 1 VOC            538400            362400            541200            477776           1919776
+ 1  FC         441208000         248984000         148060000         123983860         962235860
+";
+    assert_eq!(theirs.report().unwrap(), report);
+    assert_eq!(plain::cold_share(120, 100), 29_580_000);
+    assert_eq!(theirs.x[0], [532_440_000, 23_664_000, 354_960_000, 0, 112_404_000]);
+    assert_eq!([20, 60, 100].map(|v| plain::hot_factor(2, 0, 0, v)), [15_095_000, 15_295_000, 34_695_000]);
+    assert_eq!(theirs.balance(1, 1, 1000), Ok((1_039_246, 28_197_012)));
+    assert_eq!(theirs.balance(1, 1, 481), Err(13));
+    assert_eq!(theirs.write_report(&mut [0; 387]), Err(14));
+    assert_eq!(theirs.write_report(&mut [0; 388]), Ok(388));
+    let mut used = theirs.clone();
+    used.sums[0][4] = [plain::Sum { grams: 13_825_400, rest: 0 }, plain::Sum::default(), plain::Sum::default(), plain::Sum::default()];
+    assert_eq!(used.co2(1, 1800), Ok(44_011_000));
+    used.sums[0][4][0].grams = 1_000_000;
+    assert_eq!(used.lead(1, 2), Ok(2));
+    let sheet = [random::head_line(&head), b" 2   1000  10000  40  40  20  20  60 100\n".to_vec()].concat();
+    assert_eq!(plain::sheet_report(&sheet), report);
+    assert_eq!(plain::sheet_report(b""), "REFUSED 10     1\n");
+    let mut r = Random(1);
+    ask_all(held, &mut r, ours, &theirs);
+    ask_sheet(held, &mut r, &sheet, 0);
+}
+
+fn main() {
+    let arguments: Vec<String> = std::env::args().skip(1).collect();
+    let small = arguments.iter().any(|a| a == "--small");
+    let seed = arguments.iter().position(|a| a == "--seed").map_or(20_261_115, |i| arguments[i + 1].parse().expect("--seed N"));
+    let part = if small { 100 } else { 1 };
+    let mut r = Random(seed);
+    let mut held =
+        Held { tried: [[0; 17]; CALLS.len()], not_given: 0, buffers: 0, out_of_order: 0, edits: [[0; 17]; random::EDITS.len()], differences: 0 };
+    println!("seed {seed}{}", if small { ", a hundredth" } else { "" });
+
+    let layout = c::haldurap_layout();
+    let wanted = c::LayoutAnswer { version: c::LAYOUT, size: size_of::<c::Run>() as u64 };
+    held.same(LAYOUT, 0, layout, wanted, || "layout".into());
+    printed_numbers(&mut held);
+
+    // heads, most of them damaged
+    for _ in 0..100_000 / part {
+        let head = if r.one_in(4) { random::good_head(&mut r) } else { random::damaged_head(&mut r) };
+        open(&mut held, &head);
+    }
+
+    // runs of random length: most short, some long, some full and beyond
+    let (mut runs, mut full) = (0, 0);
+    for i in 0..22_000 / part {
+        let length = match i % 440 {
+            0 => r.from_to(5000 + 700, 5000 + 1200),
+            1..=8 => r.from_to(100, 1000),
+            _ => r.from_to(0, 50),
+        };
+        let head = random::good_head(&mut r);
+        let Some((mut ours, mut theirs)) = open(&mut held, &head) else { continue };
+        // now and then one class only, so that a single fuel's sums grow
+        let class = r.one_in(4).then(|| r.from_to(1, 7));
+        for _ in 0..length {
+            let mut record = any_record(&mut r);
+            if let Some(class) = class {
+                record.class = class;
+            }
+            add(&mut held, &mut ours, &mut theirs, &record);
+        }
+        runs += 1;
+        full += (theirs.count == 5000) as u64;
+        ask_all(&mut held, &mut r, ours, &theirs);
+    }
+    // the largest sums that adds can give: 5,000 records at the limits of K, E and X
+    let classes: &[u64] = if small { &[6] } else { &[1, 2, 3, 4, 5, 6, 7] };
+    for &class in classes {
+        let head = plain::Head { trip: 10, temps: [-300; 12] };
+        let (mut ours, mut theirs) = open(&mut held, &head).expect("a head in range");
+        let record = plain::Record { class, vehicles: 1_000_000, km: 1000, shares: [100, 0, 0], speeds: [r.of(&[10, 130]), 10, 130] };
+        for _ in 0..5001 {
+            add(&mut held, &mut ours, &mut theirs, &record);
+        }
+        (runs, full) = (runs + 1, full + 1);
+        ask_all(&mut held, &mut r, ours, &theirs);
+    }
+
+    // runs in order that no list of adds gave, with values up to the limits, and a few adds to each
+    let mut made = 0;
+    for _ in 0..20_000 / part {
+        let mut theirs = random::any_run_in_order(&mut r);
+        assert!(theirs.in_order());
+        let mut ours = c_run(&theirs);
+        ask_all(&mut held, &mut r, ours, &theirs);
+        for _ in 0..3 {
+            let record = any_record(&mut r);
+            add(&mut held, &mut ours, &mut theirs, &record);
+        }
+        ask_report(&mut held, &mut r, ours, &theirs, c::REPORT_BYTES);
+        made += 1;
+    }
+
+    // runs out of order, word by word
+    for _ in 0..if small { 1 } else { 60 } {
+        let run = c_run(&random::any_run_in_order(&mut r));
+        out_of_order(&mut held, &mut r, &run);
+    }
+
+    sheets(&mut held, &mut r, 205_000 / part);
+
+    println!("runs opened and added to: {runs}, of them full: {full}; runs in order made up: {made}; runs out of order: {}", held.out_of_order);
+    println!("adds: {}; sheets: {}; buffers compared whole: {}; figures not given: {}", held.of(ADD), held.of(SHEET), held.buffers, held.not_given);
+    println!("\nanswers by number:");
+    print!("{:>16}", "");
+    (0..=16).for_each(|n| print!("{n:>9}"));
+    println!();
+    for (call, tried) in held.tried.iter().enumerate().filter(|(_, t)| t.iter().any(|&n| n > 0)) {
+        print!("{:>16}", CALLS[call]);
+        tried.iter().for_each(|n| print!("{:>9}", if *n == 0 { "-".into() } else { n.to_string() }));
+        println!();
+    }
+    println!("\nsheets by what was done to them, and by number:");
+    for (edit, tried) in held.edits.iter().enumerate() {
+        let numbers: Vec<String> = (0..=16).filter(|&n| tried[n] > 0).map(|n| format!("{n}: {}", tried[n])).collect();
+        println!("{:>40}  {}", random::EDITS[edit], numbers.join(", "));
+    }
+    println!("\ndifferences: {}", held.differences);
+    std::process::exit((held.differences > 0) as i32);
+}

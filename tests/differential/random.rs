@@ -1,0 +1,422 @@
+//! Random and boundary heads, records, runs and sheets.
+use crate::reference::{Head, Record, Run, Sum};
+
+/// SplitMix64.
+pub struct Random(pub u64);
+
+impl Random {
+    pub fn next(&mut self) -> u64 {
+        self.0 = self.0.wrapping_add(0x9e37_79b9_7f4a_7c15);
+        let mut z = self.0;
+        z = (z ^ (z >> 30)).wrapping_mul(0xbf58_476d_1ce4_e5b9);
+        z = (z ^ (z >> 27)).wrapping_mul(0x94d0_49bb_1331_11eb);
+        z ^ (z >> 31)
+    }
+
+    /// 0 to n - 1.
+    pub fn below(&mut self, n: u64) -> u64 {
+        self.next() % n
+    }
+
+    /// low to high, both included.
+    pub fn from_to(&mut self, low: u64, high: u64) -> u64 {
+        low + self.below(high - low + 1)
+    }
+
+    /// True once in n times.
+    pub fn one_in(&mut self, n: u64) -> bool {
+        self.below(n) == 0
+    }
+
+    pub fn of<T: Copy>(&mut self, list: &[T]) -> T {
+        list[self.below(list.len() as u64) as usize]
+    }
+
+    pub fn place(&mut self, length: usize) -> usize {
+        self.below(length as u64) as usize
+    }
+
+    /// low to high, small ones as often as large ones, and the ends often.
+    pub fn scaled(&mut self, low: u64, high: u64) -> u64 {
+        match self.below(12) {
+            0 => low,
+            1 => high,
+            2 => self.from_to(low, high),
+            _ => {
+                let bits = self.from_to(0, 64 - high.leading_zeros() as u64);
+                (self.next() & (1u64 << bits).wrapping_sub(1)).clamp(low, high)
+            }
+        }
+    }
+
+    pub fn bytes(&mut self, n: usize) -> Vec<u8> {
+        (0..n).map(|_| self.next() as u8).collect()
+    }
+}
+
+// ---- Heads
+
+fn temperature(r: &mut Random) -> i64 {
+    match r.below(10) {
+        0 => r.of(&[-300, -299, -1, 0, 1, 399, 400]),
+        1..=4 => r.below(701) as i64 - 300,
+        _ => r.below(400) as i64 - 120,
+    }
+}
+
+pub fn good_head(r: &mut Random) -> Head {
+    let trip = if r.one_in(5) { r.of(&[10, 11, 199, 200]) } else { r.from_to(10, 200) };
+    let same = r.one_in(10).then(|| temperature(r));
+    Head { trip, temps: std::array::from_fn(|_| same.unwrap_or_else(|| temperature(r))) }
+}
+
+/// A head with one or more values that may be out of range.
+pub fn damaged_head(r: &mut Random) -> Head {
+    let mut head = good_head(r);
+    for _ in 0..r.from_to(1, 3) {
+        if r.one_in(3) {
+            head.trip = r.of(&[0, 1, 9, 10, 200, 201, 1 << 32, (1 << 32) + 100, (1 << 63) + 100, u64::MAX]);
+        } else {
+            let at = r.place(12);
+            head.temps[at] = r.of(&[-301, -300, 400, 401, i64::MIN, i64::MAX, -(1 << 32), (1 << 32) + 5, i64::MIN + 100, 1000, -1000]);
+        }
+    }
+    head
+}
+
+// ---- Records
+
+pub fn good_record(r: &mut Random) -> Record {
+    let vehicles = r.scaled(1, 1_000_000);
+    let most = 999_999.min(1_000_000_000 / vehicles);
+    let km = if r.one_in(15) { most } else { r.scaled(1, most) };
+    let shares = match r.below(12) {
+        0 => r.of(&[[100, 0, 0], [0, 100, 0], [0, 0, 100], [99, 1, 0], [0, 1, 99], [33, 33, 34]]),
+        _ => {
+            let a = r.from_to(0, 100);
+            let b = r.from_to(0, 100 - a);
+            let mut s = [a, b, 100 - a - b];
+            s.rotate_left(r.place(3));
+            s
+        }
+    };
+    let speeds = std::array::from_fn(|_| if r.one_in(8) { r.of(&[10, 11, 129, 130]) } else { r.from_to(10, 130) });
+    Record { class: r.from_to(1, 7), vehicles, km, shares, speeds }
+}
+
+/// A record with one or more values at or beyond an end.
+pub fn damaged_record(r: &mut Random) -> Record {
+    let mut record = good_record(r);
+    for _ in 0..r.of(&[1, 1, 1, 2, 3]) {
+        match r.below(8) {
+            0 => record.class = r.of(&[0, 8, 9, 256 + 2, (1 << 32) + 2, u64::MAX]),
+            1 => record.vehicles = r.of(&[0, 1, 1_000_000, 1_000_001, 1 << 32, u64::MAX]),
+            2 => record.km = r.of(&[0, 1, 999_999, 1_000_000, 1 << 32, u64::MAX]),
+            3 => {
+                (record.vehicles, record.km) =
+                    r.of(&[(100_001, 10_000), (1001, 999_999), (1_000_000, 1001), (1_000_000, 999_999), (31_623, 31_623), (1_000_000, 1000)])
+            }
+            4 => record.shares[r.place(3)] = r.of(&[0, 100, 101, 1 << 32, 1 << 63, u64::MAX]),
+            5 => {
+                let at = r.place(3);
+                record.shares[at] = if r.one_in(2) { record.shares[at].wrapping_add(1) } else { record.shares[at].wrapping_sub(1) };
+            }
+            6 => {
+                record.shares = r.of(&[
+                    [u64::MAX, 1, 100],
+                    [1 << 63, 1 << 63, 100],
+                    [101, u64::MAX, 0],
+                    [0, 0, 0],
+                    [100, 100, 100],
+                    [50, 50, 1],
+                    [40, 40, 19],
+                    [(1 << 32) + 40, 40, 20],
+                ])
+            }
+            _ => record.speeds[r.place(3)] = r.of(&[0, 1, 9, 10, 130, 131, 256 + 50, (1 << 32) + 50, u64::MAX]),
+        }
+    }
+    record
+}
+
+// ---- Runs in order that no list of adds may have given
+
+fn sum_up_to(r: &mut Random, most: u64) -> Sum {
+    let grams = match r.below(10) {
+        0 => most,
+        1 => 0,
+        2..=5 => r.scaled(0, most),
+        _ => r.from_to(0, most),
+    };
+    let rest = if r.one_in(3) { r.of(&[0, 1, 250_000_000, 499_999_999, 500_000_000, 500_000_001, 999_999_999]) } else { r.below(1_000_000_000) };
+    Sum { grams, rest: if grams == most { 0 } else { rest } }
+}
+
+pub fn any_run_in_order(r: &mut Random) -> Run {
+    let count = match r.below(6) {
+        0 => r.of(&[0, 1, 4998, 4999, 5000]),
+        1..=3 => r.scaled(0, 5000),
+        _ => r.from_to(0, 5000),
+    };
+    // Small sums too, so that kinds and totals below a gram and reports with lines left out occur.
+    let most = if r.one_in(3) { r.from_to(0, 3).min(count) } else { 1_000_000_000_000 * count };
+    let mut run = Run { trip: r.from_to(10, 200), count, ..Run::default() };
+    for x in run.x.iter_mut().flatten() {
+        *x = if r.one_in(10) { r.of(&[0, 1, 4_899_999_999, 4_900_000_000]) } else { r.from_to(0, 4_900_000_000) };
+    }
+    for km in &mut run.km {
+        *km = r.scaled(0, 1_000_000_000 * count);
+    }
+    for sum in run.sums.iter_mut().flatten().flatten() {
+        *sum = sum_up_to(r, most);
+    }
+    run
+}
+
+// ---- Sheets
+
+pub fn head_line(head: &Head) -> Vec<u8> {
+    let mut line = format!("{:5}", head.trip);
+    for t in head.temps {
+        line += &format!("{t:5}");
+    }
+    (line + "\n").into_bytes()
+}
+
+pub fn record_line(record: &Record) -> Vec<u8> {
+    let mut line = format!("{:2}{:7}{:7}", record.class, record.vehicles, record.km);
+    for n in record.shares.iter().chain(&record.speeds) {
+        line += &format!("{n:4}");
+    }
+    (line + "\n").into_bytes()
+}
+
+/// A record whose numbers have room in their fields, with one that is out of range.
+fn record_out_of_range(r: &mut Random) -> Record {
+    let mut record = good_record(r);
+    match r.below(6) {
+        0 => record.class = r.of(&[0, 8, 9, 10, 99]),
+        1 => record.vehicles = r.of(&[0, 1_000_001, 9_999_999]),
+        2 => record.km = r.of(&[0, 1_000_000, 9_999_999]),
+        3 => (record.vehicles, record.km) = r.of(&[(100_001, 10_000), (1_000_000, 999_999), (1001, 999_999)]),
+        4 => record.shares[r.place(3)] = r.of(&[0, 99, 100, 101, 9999]),
+        _ => record.speeds[r.place(3)] = r.of(&[0, 9, 131, 9999]),
+    }
+    record
+}
+
+/// A head whose numbers have room in their fields, with one that is out of range.
+fn head_out_of_range(r: &mut Random) -> Head {
+    let mut head = good_head(r);
+    if r.one_in(2) {
+        head.trip = r.of(&[0, 9, 201, 99_999]);
+    } else {
+        head.temps[r.place(12)] = r.of(&[-9999, -301, 401, 99_999]);
+    }
+    head
+}
+
+/// Bytes that a sheet has, and some that look like them.
+const ALPHABET: &[u8] = b"0123456789          ---\n\n+.\t\r\0/:\xa0\xb2";
+
+const WIDTHS_HEAD: [usize; 13] = [5; 13];
+const WIDTHS_RECORD: [usize; 9] = [2, 7, 7, 4, 4, 4, 4, 4, 4];
+
+/// The bounds of a field of a line.
+fn field(r: &mut Random, head: bool) -> (usize, usize) {
+    let widths: &[usize] = if head { &WIDTHS_HEAD } else { &WIDTHS_RECORD };
+    let f = r.place(widths.len());
+    let at: usize = widths[..f].iter().sum();
+    (at, at + widths[f])
+}
+
+/// What is done to a well-formed sheet; the last two make the bytes from nothing.
+pub const EDITS: [&str; 32] = [
+    "well formed",
+    "a value out of range",
+    "a byte replaced",
+    "a byte replaced by one like a sheet's",
+    "a byte inserted",
+    "a byte deleted",
+    "cut short",
+    "last LF missing",
+    "bytes after the last LF",
+    "an empty line",
+    "a line doubled",
+    "two lines exchanged",
+    "head twice",
+    "head missing",
+    "CRLF",
+    "a leading zero",
+    "left-justified",
+    "minus before 0",
+    "minus in L or a record",
+    "a plus",
+    "a blank field",
+    "a space inside a number",
+    "a space more in a line",
+    "two fields exchanged",
+    "a number too wide",
+    "a LF inside a line",
+    "two lines joined",
+    "a letter or a digit of another script",
+    "minus away from its number",
+    "several edits",
+    "random bytes",
+    "random bytes like a sheet's",
+];
+
+/// A sheet with n records, damaged by an edit (a place of EDITS).
+pub fn sheet(r: &mut Random, n: usize, edit: usize) -> Vec<u8> {
+    let bad = if edit == 1 { r.place(n + 1) } else { n + 1 };
+    let mut lines = vec![head_line(&if bad == 0 { head_out_of_range(r) } else { good_head(r) })];
+    for i in 0..n {
+        lines.push(record_line(&if bad == i + 1 { record_out_of_range(r) } else { good_record(r) }));
+    }
+    match edit {
+        0 | 1 => {}
+        29 => {
+            let mut text = lines.concat();
+            for _ in 0..r.from_to(2, 4) {
+                edit_bytes(r, &mut text);
+            }
+            return text;
+        }
+        30 => {
+            let n = r.place(300);
+            return r.bytes(n);
+        }
+        31 => {
+            let n = r.place(4);
+            let mut text = Vec::new();
+            for i in 0..=n {
+                let length = if i == 0 { 65 } else { 40 };
+                let length = if r.one_in(4) { r.place(80) } else { length };
+                text.extend((0..length).map(|_| r.of(ALPHABET)));
+                text.push(b'\n');
+            }
+            return text;
+        }
+        _ => edit_lines(r, &mut lines, edit),
+    }
+    lines.concat()
+}
+
+fn edit_bytes(r: &mut Random, text: &mut Vec<u8>) {
+    let at = r.place(text.len() + 1);
+    match r.below(4) {
+        0 => text.insert(at, r.of(ALPHABET)),
+        _ if at == text.len() => text.push(r.of(ALPHABET)),
+        1 => drop(text.remove(at)),
+        2 => text[at] = r.next() as u8,
+        _ => text[at] = r.of(ALPHABET),
+    }
+}
+
+/// The bounds of the digits (and the minus) of a field.
+fn digits(line: &[u8], (from, to): (usize, usize)) -> (usize, usize) {
+    let first = (from..to).find(|&i| line[i] != b' ').unwrap_or(to);
+    (first, to)
+}
+
+fn edit_lines(r: &mut Random, lines: &mut Vec<Vec<u8>>, edit: usize) {
+    let i = r.place(lines.len());
+    let j = r.place(lines.len());
+    let head = i == 0;
+    let at = r.place(lines[i].len());
+    let (from, to) = field(r, head);
+    match edit {
+        2 => lines[i][at] = r.next() as u8,
+        3 => lines[i][at] = r.of(ALPHABET),
+        4 => lines[i].insert(at, if r.one_in(4) { r.next() as u8 } else { r.of(ALPHABET) }),
+        5 => drop(lines[i].remove(at)),
+        6 => {
+            lines.truncate(i + 1);
+            lines[i].truncate(at);
+        }
+        7 => drop(lines.last_mut().unwrap().pop()),
+        8 => {
+            let n = r.from_to(1, 45) as usize;
+            let tail = (0..n).map(|_| r.of(b" 0123456789")).collect();
+            lines.push(tail);
+        }
+        9 => lines.insert(r.place(lines.len() + 1), b"\n".to_vec()),
+        10 => lines.insert(i, lines[i].clone()),
+        11 => lines.swap(i, j),
+        12 => lines.insert(0, lines[0].clone()),
+        13 => drop(lines.remove(0)),
+        14 => {
+            let all = r.one_in(2);
+            for (k, line) in lines.iter_mut().enumerate() {
+                if all || k == i {
+                    let end = line.len() - 1;
+                    line.insert(end, b'\r');
+                }
+            }
+        }
+        15 => {
+            let (first, _) = digits(&lines[i], (from, to));
+            if first > from {
+                lines[i][first - 1] = b'0';
+            }
+        }
+        16 => {
+            let (first, _) = digits(&lines[i], (from, to));
+            lines[i][from..to].rotate_left(first - from);
+        }
+        17 => {
+            let width = to - from;
+            let zero = format!("{:>width$}", "-0");
+            lines[i][from..to].copy_from_slice(zero.as_bytes());
+        }
+        18 => {
+            let (from, to) = if head { (0, 5) } else { (from, to) };
+            let (first, _) = digits(&lines[i], (from, to));
+            if first > from {
+                lines[i][first - 1] = b'-';
+            }
+        }
+        19 => {
+            let (first, _) = digits(&lines[i], (from, to));
+            if first > from {
+                lines[i][first - 1] = b'+';
+            }
+        }
+        20 => lines[i][from..to].fill(b' '),
+        21 => {
+            let (first, end) = digits(&lines[i], (from, to));
+            let k = first + r.place(end - first);
+            lines[i][k] = b' ';
+        }
+        22 => {
+            let k = r.of(&[0, lines[i].len() - 1]);
+            lines[i].insert(k, b' ');
+        }
+        23 => {
+            let (from2, to2) = field(r, head);
+            let (a, b) = (lines[i][from..to].to_vec(), lines[i][from2..to2].to_vec());
+            if a.len() == b.len() {
+                lines[i][from..to].copy_from_slice(&b);
+                lines[i][from2..to2].copy_from_slice(&a);
+            } else {
+                lines[i][from..to].rotate_left(1);
+            }
+        }
+        24 => {
+            let number = format!("{}", r.of(&[10_000u64, 100_000, 12_345_678, 99_999_999, u64::MAX]));
+            lines[i].splice(from..to, number.into_bytes());
+        }
+        25 => lines[i].insert(at, b'\n'),
+        26 => drop(lines[i].pop()),
+        27 => lines[i][at] = r.of(b"aAlO\xb2\x80\xff\x0b\x0c\x30"),
+        28 => {
+            // a minus at the field's start, spaces behind it, then the number
+            if to - from == 5 {
+                lines[i][from] = b'-';
+            } else {
+                lines[i][at] = b'-';
+            }
+        }
+        _ => unreachable!(),
+    }
+}

@@ -1,0 +1,431 @@
+//! Document 01 ("COPERT II inventory core") in plain Rust: ordinary structs, u128 and i128 wherever a product might be
+//! large. Written from the document; nothing here comes from the Rattle code. A refusal is its number in the table of
+//! grounds. Fuels, quantities and kinds count from 0 inside arrays and from 1 where a caller hands them in.
+#![allow(dead_code)]
+
+pub const URBAN: usize = 0;
+pub const RURAL: usize = 1;
+pub const HIGHWAY: usize = 2;
+pub const COLD: usize = 3;
+
+const PM: usize = 3;
+const FC: usize = 4;
+const NAMES: [&str; 5] = ["CO", "NOX", "VOC", "PM", "FC"];
+
+const BILLION: u128 = 1_000_000_000;
+const MOST_RECORDS: u64 = 5000;
+const MOST_TEXT: usize = 65_536;
+
+#[derive(Clone, Copy, Debug, PartialEq)]
+pub struct Head {
+    pub trip: u64,
+    pub temps: [i64; 12],
+}
+
+#[derive(Clone, Copy, Debug, PartialEq)]
+pub struct Record {
+    pub class: u64,
+    pub vehicles: u64,
+    pub km: u64,
+    pub shares: [u64; 3],
+    pub speeds: [u64; 3],
+}
+
+/// Whole grams and a rest in billionths of a gram.
+#[derive(Clone, Copy, Debug, Default, PartialEq)]
+pub struct Sum {
+    pub grams: u64,
+    pub rest: u64,
+}
+
+impl Sum {
+    /// The sum in billionths of a gram.
+    fn exact(self) -> u128 {
+        self.grams as u128 * BILLION + self.rest as u128
+    }
+
+    fn of(billionths: u128) -> Sum {
+        Sum { grams: (billionths / BILLION) as u64, rest: (billionths % BILLION) as u64 }
+    }
+}
+
+#[derive(Clone, Debug, Default, PartialEq)]
+pub struct Run {
+    pub trip: u64,
+    /// X by fuel and quantity.
+    pub x: [[u64; 5]; 3],
+    pub count: u64,
+    pub km: [u64; 3],
+    /// By fuel, quantity and kind.
+    pub sums: [[[Sum; 4]; 5]; 3],
+}
+
+fn half_up(numerator: u128, denominator: u128) -> u128 {
+    (2 * numerator + denominator) / (2 * denominator)
+}
+
+// ---- Hot factors
+
+type Curve = [i128; 3];
+const NONE: Curve = [0, 0, 0];
+
+/// CO, NOX, VOC, PM, FC of classes 1, 2, 4, 6 and 7: the coefficients of V², V and 1.
+const CLASS_1: [Curve; 5] =
+    [[110400, -15132000, 577890000], [900, -79000, 19391000], [6770, -1170000, 54734000], NONE, [187000, -26974000, 1567700000]];
+const CLASS_2: [Curve; 5] =
+    [[6000, -475000, 22195000], [575, -54800, 4880000], [700, -67000, 2406000], NONE, [187000, -26974000, 1567700000]];
+const CLASS_4: [Curve; 5] =
+    [[11000, -1165000, 42098000], [400, -63000, 5278000], [1000, -166000, 7431000], NONE, [72000, -9250000, 746250000]];
+/// FC of classes 6 and 7 is Table V.1.6-1 of source document 002: 0.02330V² - 2.5646V + 136.22 and
+/// 0.01530V² - 2.1810V + 152.74, times 10,000,000.
+const CLASS_6: [Curve; 5] = [
+    [2000, -256000, 18281000], [1400, -159200, 14921000], [660, -113000, 6024000], [125, -5770, 2880000], [233000, -25646000, 1362200000],
+];
+const CLASS_7: [Curve; 5] = [
+    [2000, -313000, 17838000], [1270, -167400, 9037000], [281, -65000, 4505000], [400, -55000, 2687000], [153000, -21810000, 1527400000],
+];
+/// Class 3 is class 2 in hundredths.
+const CLASS_3: [i128; 5] = [70, 44, 44, 100, 100];
+/// Class 5 by quantity and road, at any speed.
+const CLASS_5: [[u128; 3]; 5] = [
+    [207000000, 75000000, 87000000],
+    [3000000, 10000000, 7500000],
+    [154000000, 72000000, 59000000],
+    [0, 0, 0],
+    [1115000000, 660000000, 569000000],
+];
+
+fn curve_at(curve: Curve, speed: u64) -> i128 {
+    let v = speed as i128;
+    curve[0] * v * v + curve[1] * v + curve[2]
+}
+
+/// E in units of 0.0000001 g/km.
+pub fn hot_factor(class: u64, quantity: usize, road: usize, speed: u64) -> u128 {
+    let e = match class {
+        1 => curve_at(CLASS_1[quantity], speed),
+        2 => curve_at(CLASS_2[quantity], speed),
+        3 => curve_at(CLASS_2[quantity], speed) * CLASS_3[quantity] / 100,
+        4 => curve_at(CLASS_4[quantity], speed),
+        5 => return CLASS_5[quantity][road],
+        6 => curve_at(CLASS_6[quantity], speed),
+        _ => curve_at(CLASS_7[quantity], speed),
+    };
+    e as u128
+}
+
+/// The fuel of a class, from 0.
+pub fn fuel_of(class: u64) -> usize {
+    match class {
+        6 | 7 => 1,
+        4 => 2,
+        _ => 0,
+    }
+}
+
+// ---- Cold starts
+
+/// p and q of the ratio cold to hot, by fuel and quantity.
+const RATIOS: [[Option<(i128, i128)>; 5]; 3] = [
+    [Some((37000, 90)), Some((11400, 6)), Some((28000, 60)), None, Some((14700, 9))],
+    [Some((19000, 30)), Some((13000, 13)), Some((31000, 90)), Some((31000, 100)), Some((13400, 8))],
+    [Some((36600, 90)), Some((9800, 6)), Some((22400, 60)), None, Some((14700, 9))],
+];
+
+/// B, the cold share of the distance.
+pub fn cold_share(trip: u64, t: i64) -> i128 {
+    let (l, t) = (trip as i128, t as i128);
+    64_700_000 - 250_000 * l - (97_400 - 385 * l) * t
+}
+
+/// Q, the ratio less 10,000, or 0.
+fn cold_excess(fuel: usize, quantity: usize, t: i64) -> i128 {
+    match RATIOS[fuel][quantity] {
+        Some((p, q)) => (p - q * t as i128 - 10_000).max(0),
+        None => 0,
+    }
+}
+
+pub fn cold_x(head: &Head, fuel: usize, quantity: usize) -> u64 {
+    let sum: i128 = head.temps.iter().map(|&t| cold_share(head.trip, t) * cold_excess(fuel, quantity, t)).sum();
+    half_up(sum as u128, 12_000) as u64
+}
+
+// ---- The run
+
+/// Opens a run, or refuses with 1 or 2.
+pub fn open(head: &Head) -> Result<Run, u64> {
+    if !(10..=200).contains(&head.trip) {
+        return Err(1);
+    }
+    if head.temps.iter().any(|t| !(-300..=400).contains(t)) {
+        return Err(2);
+    }
+    let mut run = Run { trip: head.trip, ..Run::default() };
+    for fuel in 0..3 {
+        for quantity in 0..5 {
+            run.x[fuel][quantity] = cold_x(head, fuel, quantity);
+        }
+    }
+    Ok(run)
+}
+
+/// 3 to 8 of a record by itself.
+fn record_fault(r: &Record) -> Option<u64> {
+    if !(1..=7).contains(&r.class) {
+        return Some(3);
+    }
+    if !(1..=1_000_000).contains(&r.vehicles) {
+        return Some(4);
+    }
+    if !(1..=999_999).contains(&r.km) {
+        return Some(5);
+    }
+    if r.vehicles as u128 * r.km as u128 > BILLION {
+        return Some(6);
+    }
+    if r.shares.iter().any(|&s| s > 100) || r.shares.iter().sum::<u64>() != 100 {
+        return Some(7);
+    }
+    if r.speeds.iter().any(|v| !(10..=130).contains(v)) {
+        return Some(8);
+    }
+    None
+}
+
+impl Run {
+    pub fn in_order(&self) -> bool {
+        if !(10..=200).contains(&self.trip) || self.count > MOST_RECORDS {
+            return false;
+        }
+        let most = 1_000_000_000_000 * BILLION * self.count as u128;
+        self.x.iter().flatten().all(|&x| x <= 4_900_000_000)
+            && self.sums.iter().flatten().flatten().all(|s| (s.rest as u128) < BILLION && s.exact() <= most)
+            && self.km.iter().all(|&km| km as u128 <= BILLION * self.count as u128)
+    }
+
+    /// Adds a record, or refuses with 16, then 3 to 9, and changes nothing.
+    pub fn add(&mut self, r: &Record) -> Result<(), u64> {
+        if !self.in_order() {
+            return Err(16);
+        }
+        if let Some(number) = record_fault(r) {
+            return Err(number);
+        }
+        if self.count >= MOST_RECORDS {
+            return Err(9);
+        }
+        let k = r.vehicles as u128 * r.km as u128;
+        let fuel = fuel_of(r.class);
+        for quantity in 0..5 {
+            let sums = &mut self.sums[fuel][quantity];
+            for road in 0..3 {
+                let e = hot_factor(r.class, quantity, road, r.speeds[road]);
+                sums[road] = Sum::of(sums[road].exact() + k * r.shares[road] as u128 * e);
+            }
+            if r.class != 5 {
+                let e = hot_factor(r.class, quantity, URBAN, r.speeds[URBAN]);
+                let factor = half_up(e * self.x[fuel][quantity] as u128, BILLION);
+                sums[COLD] = Sum::of(sums[COLD].exact() + k * factor * 100);
+            }
+        }
+        self.km[fuel] += k as u64;
+        self.count += 1;
+        Ok(())
+    }
+
+    /// 16, then 11; else the places of a fuel and a quantity.
+    fn place(&self, fuel: u64, quantity: u64) -> Result<(usize, usize), u64> {
+        if !self.in_order() {
+            return Err(16);
+        }
+        if !(1..=3).contains(&fuel) || !(1..=5).contains(&quantity) {
+            return Err(11);
+        }
+        Ok((fuel as usize - 1, quantity as usize - 1))
+    }
+
+    fn printed_kind(&self, f: usize, q: usize, kind: usize) -> u64 {
+        half_up(self.sums[f][q][kind].exact(), BILLION) as u64
+    }
+
+    fn printed_total(&self, f: usize, q: usize) -> u64 {
+        half_up(self.sums[f][q].iter().map(|s| s.exact()).sum(), BILLION) as u64
+    }
+
+    pub fn kind(&self, fuel: u64, quantity: u64, kind: usize) -> Result<u64, u64> {
+        let (f, q) = self.place(fuel, quantity)?;
+        Ok(self.printed_kind(f, q, kind))
+    }
+
+    pub fn total(&self, fuel: u64, quantity: u64) -> Result<u64, u64> {
+        let (f, q) = self.place(fuel, quantity)?;
+        Ok(self.printed_total(f, q))
+    }
+
+    /// k and the balanced total; sold is S in tonnes.
+    pub fn balance(&self, fuel: u64, quantity: u64, sold: u64) -> Result<(u64, u64), u64> {
+        let (f, q) = self.place(fuel, quantity)?;
+        let used = self.printed_total(f, FC) as u128;
+        if used == 0 {
+            return Err(12);
+        }
+        if sold > 999_999_999 {
+            return Err(13);
+        }
+        let k = half_up(sold as u128 * 1_000_000_000_000, used);
+        if !(500_000..=1_500_000).contains(&k) {
+            return Err(13);
+        }
+        Ok((k as u64, half_up(self.printed_total(f, q) as u128 * k, 1_000_000) as u64))
+    }
+
+    /// The printed FC total for one of the three calls from fuel: 16, 11, then 15.
+    fn fuel_used(&self, fuel: u64, content: u64, most: u64) -> Result<u128, u64> {
+        let (f, _) = self.place(fuel, 5)?;
+        if content > most {
+            return Err(15);
+        }
+        Ok(self.printed_total(f, FC) as u128)
+    }
+
+    pub fn co2(&self, fuel: u64, hydrogen: u64) -> Result<u64, u64> {
+        let used = self.fuel_used(fuel, hydrogen, 4000)?;
+        Ok(half_up(44_011_000 * used, 12_011_000 + 1_008 * hydrogen as u128) as u64)
+    }
+
+    pub fn so2(&self, fuel: u64, sulphur: u64) -> Result<u64, u64> {
+        let used = self.fuel_used(fuel, sulphur, 10_000)?;
+        Ok(half_up(2 * used * sulphur as u128, 1_000_000) as u64)
+    }
+
+    pub fn lead(&self, fuel: u64, lead: u64) -> Result<u64, u64> {
+        let used = self.fuel_used(fuel, lead, 1000)?;
+        Ok(half_up(3 * used * lead as u128, 4_000_000) as u64)
+    }
+
+    /// The map's row: the printed kinds.
+    pub fn map_row(&self, fuel: u64, quantity: u64) -> Result<[f64; 4], u64> {
+        let (f, q) = self.place(fuel, quantity)?;
+        Ok([0, 1, 2, 3].map(|kind| self.printed_kind(f, q, kind) as f64))
+    }
+
+    /// One figure for the map, none for PM of fuels 1 and 3.
+    pub fn figure(&self, fuel: u64, quantity: u64, kind: usize) -> Result<Option<f64>, u64> {
+        let row = self.map_row(fuel, quantity)?;
+        let not_given = quantity as usize == PM + 1 && fuel != 2;
+        Ok(if not_given { None } else { Some(row[kind]) })
+    }
+
+    /// The report's text, or 16.
+    pub fn report(&self) -> Result<String, u64> {
+        if !self.in_order() {
+            return Err(16);
+        }
+        let mut text = String::new();
+        for f in 0..3 {
+            for q in 0..5 {
+                let total = self.printed_total(f, q);
+                if total != 0 {
+                    let [urban, rural, highway, cold] = [0, 1, 2, 3].map(|kind| self.printed_kind(f, q, kind));
+                    text += &format!("{:2}{:>4}{urban:18}{rural:18}{highway:18}{cold:18}{total:18}\n", f + 1, NAMES[q]);
+                }
+            }
+        }
+        Ok(text)
+    }
+
+    /// Writes the report to the front of a buffer: its length, or 16, 14 and the buffer as it was.
+    pub fn write_report(&self, buffer: &mut [u8]) -> Result<usize, u64> {
+        let text = self.report()?;
+        write_text(&text, buffer)
+    }
+}
+
+fn write_text(text: &str, buffer: &mut [u8]) -> Result<usize, u64> {
+    let front = buffer.get_mut(..text.len()).ok_or(14u64)?;
+    front.copy_from_slice(text.as_bytes());
+    Ok(text.len())
+}
+
+// ---- Sheets
+
+/// A number that is right-justified with spaces, without leading zeros; a minus only before a number that is not 0.
+fn number_in(field: &[u8]) -> Option<i64> {
+    let text = std::str::from_utf8(field).ok()?;
+    let digits = text.trim_start_matches(' ');
+    let (minus, digits) = match digits.strip_prefix('-') {
+        Some(rest) => (true, rest),
+        None => (false, digits),
+    };
+    if digits.is_empty() || !digits.bytes().all(|b| b.is_ascii_digit()) {
+        return None;
+    }
+    if digits.starts_with('0') && (minus || digits.len() > 1) {
+        return None;
+    }
+    let n: i64 = digits.parse().ok()?;
+    Some(if minus { -n } else { n })
+}
+
+/// The numbers of a line (without its LF) by their widths.
+fn numbers_in(line: &[u8], widths: &[usize]) -> Option<Vec<i64>> {
+    if line.len() != widths.iter().sum::<usize>() {
+        return None;
+    }
+    let mut at = 0;
+    let mut numbers = Vec::new();
+    for width in widths {
+        numbers.push(number_in(&line[at..at + width])?);
+        at += width;
+    }
+    Some(numbers)
+}
+
+fn head_in(line: &[u8]) -> Option<Head> {
+    let numbers = numbers_in(line, &[5; 13])?;
+    Some(Head { trip: u64::try_from(numbers[0]).ok()?, temps: numbers[1..].try_into().ok()? })
+}
+
+fn record_in(line: &[u8]) -> Option<Record> {
+    let mut n = Vec::new();
+    for number in numbers_in(line, &[2, 7, 7, 4, 4, 4, 4, 4, 4])? {
+        n.push(u64::try_from(number).ok()?);
+    }
+    Some(Record { class: n[0], vehicles: n[1], km: n[2], shares: [n[3], n[4], n[5]], speeds: [n[6], n[7], n[8]] })
+}
+
+/// A refused sheet: the number and its line, from 1.
+#[derive(Clone, Copy, Debug, PartialEq)]
+pub struct SentBack {
+    pub number: u64,
+    pub line: usize,
+}
+
+/// The run of a sheet of any length.
+pub fn sheet(text: &[u8]) -> Result<Run, SentBack> {
+    let mut run = None;
+    for (i, line) in text.split_inclusive(|&b| b == b'\n').enumerate() {
+        let back = |number| SentBack { number, line: i + 1 };
+        let line = line.strip_suffix(b"\n").ok_or(back(10))?;
+        match &mut run {
+            None => run = Some(open(&head_in(line).ok_or(back(10))?).map_err(back)?),
+            Some(run) => run.add(&record_in(line).ok_or(back(10))?).map_err(back)?,
+        }
+    }
+    run.ok_or(SentBack { number: 10, line: 1 })
+}
+
+/// What the program `report` prints for a sheet.
+pub fn sheet_report(text: &[u8]) -> String {
+    let read = if text.len() > MOST_TEXT { Err(SentBack { number: 10, line: 1 }) } else { sheet(text) };
+    match read {
+        Ok(run) => run.report().expect("a sheet gives a run in order"),
+        Err(back) => format!("REFUSED{:3}{:6}\n", back.number, back.line),
+    }
+}
+
+/// The same into a buffer: its length, or 14 and the buffer as it was.
+pub fn write_sheet_report(text: &[u8], buffer: &mut [u8]) -> Result<usize, u64> {
+    write_text(&sheet_report(text), buffer)
+}

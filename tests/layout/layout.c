@@ -1,0 +1,219 @@
+/* Compares sizeof and offsetof of every struct of haldurap.h with what the archive itself reads and writes.
+   Each field is found by calls: what is put into it must have its effect, and no other; what comes back must stand
+   there. The size of an answer that comes back in memory is the number of bytes that the archive writes. */
+#include <inttypes.h>
+#include <stdio.h>
+#include <string.h>
+
+#include "haldurap.h"
+
+static int failed, checked;
+
+static void same(uint64_t found, uint64_t wanted, const char *what, int i) {
+    checked++;
+    if (found != wanted) {
+        printf("layout.c: %s [%d] is %" PRIu64 ", not %" PRIu64 "\n", what, i, found, wanted);
+        failed = 1;
+    }
+}
+
+#define SIZE(type, bytes) same(sizeof(type), bytes, "sizeof(" #type ")", 0)
+#define PLACE(type, field, offset) FIELD(type, field, offset, 8)
+#define FIELD(type, field, offset, bytes) ( \
+        same(offsetof(type, field), offset, "offsetof(" #type ", " #field ")", 0), \
+        same(sizeof(((type *)0)->field), bytes, "size of " #type "." #field, 0))
+
+/* The header's own comments, as numbers. */
+static void as_documented(void) {
+    SIZE(haldurap_head, 104), PLACE(haldurap_head, trip, 0), FIELD(haldurap_head, temps, 8, 96);
+    SIZE(haldurap_shares, 24), PLACE(haldurap_shares, urban, 0), PLACE(haldurap_shares, rural, 8), PLACE(haldurap_shares, highway, 16);
+    SIZE(haldurap_speeds, 24), PLACE(haldurap_speeds, urban, 0), PLACE(haldurap_speeds, rural, 8), PLACE(haldurap_speeds, highway, 16);
+    SIZE(haldurap_record, 72), PLACE(haldurap_record, vehicle_class, 0), PLACE(haldurap_record, vehicles, 8), PLACE(haldurap_record, km, 16);
+    FIELD(haldurap_record, shares, 24, 24), FIELD(haldurap_record, speeds, 48, 24);
+    SIZE(haldurap_run, 1120), PLACE(haldurap_run, trip, 0), FIELD(haldurap_run, x, 8, 120), PLACE(haldurap_run, count, 128);
+    FIELD(haldurap_run, km, 136, 24), FIELD(haldurap_run, grams, 160, 480), FIELD(haldurap_run, rests, 640, 480);
+    SIZE(haldurap_run_answer, 1128), PLACE(haldurap_run_answer, number, 0), FIELD(haldurap_run_answer, run, 8, 1120);
+    SIZE(haldurap_grams_answer, 16), PLACE(haldurap_grams_answer, number, 0), PLACE(haldurap_grams_answer, grams, 8);
+    SIZE(haldurap_balance_answer, 24), PLACE(haldurap_balance_answer, number, 0), PLACE(haldurap_balance_answer, k, 8);
+    PLACE(haldurap_balance_answer, grams, 16);
+    SIZE(haldurap_length_answer, 16), PLACE(haldurap_length_answer, number, 0), PLACE(haldurap_length_answer, bytes, 8);
+    SIZE(haldurap_map_row_answer, 40), PLACE(haldurap_map_row_answer, number, 0), PLACE(haldurap_map_row_answer, urban, 8);
+    PLACE(haldurap_map_row_answer, rural, 16), PLACE(haldurap_map_row_answer, highway, 24), PLACE(haldurap_map_row_answer, cold, 32);
+    SIZE(haldurap_figure_answer, 24), PLACE(haldurap_figure_answer, number, 0), PLACE(haldurap_figure_answer, given, 8);
+    PLACE(haldurap_figure_answer, grams, 16);
+    SIZE(haldurap_sheet_answer, 1136), PLACE(haldurap_sheet_answer, number, 0), PLACE(haldurap_sheet_answer, line, 8);
+    FIELD(haldurap_sheet_answer, run, 16, 1120);
+    SIZE(haldurap_layout_answer, 16), PLACE(haldurap_layout_answer, version, 0), PLACE(haldurap_layout_answer, size, 8);
+}
+
+static const haldurap_head head = {120, {100, 100, 100, 100, 100, 100, 100, 100, 100, 100, 100, 100}};
+static const haldurap_record record = {2, 1000, 10000, {40, 40, 20}, {20, 60, 100}};
+
+#if defined(__x86_64__) && !defined(_WIN32)
+/* An answer of more than 16 bytes is written to a place that the caller hands in as a first, hidden argument. Handing that
+   in openly, twice with other bytes beforehand, shows which bytes the archive writes. */
+enum { ROOM = 4096 };
+static uint8_t zeros[ROOM], ones[ROOM];
+
+static void written(size_t size, const char *what) {
+    size_t first = 0, last = 0;
+    while (first < ROOM && zeros[first] != ones[first]) first++;
+    for (size_t i = 0; i < ROOM; i++) if (zeros[i] == ones[i]) last = i + 1;
+    same(first, 0, what, -1);
+    same(last, size, what, -2);
+    for (size_t i = first; i < last; i++) if (zeros[i] != ones[i]) same(0, 1, what, (int)i);
+    memset(zeros, 0, ROOM), memset(ones, 255, ROOM);
+}
+
+#define WRITTEN(type, call, parameters, ...) do { \
+        void *(*raw) parameters = (void *(*) parameters)(void (*)(void))call; \
+        raw(zeros, __VA_ARGS__), raw(ones, __VA_ARGS__); \
+        written(sizeof(type), "bytes that " #call " writes"); \
+    } while (0)
+
+static void sizes_written(haldurap_run run) {
+    memset(zeros, 0, ROOM), memset(ones, 255, ROOM);
+    WRITTEN(haldurap_run_answer, haldurap_open, (void *, haldurap_head), head);
+    WRITTEN(haldurap_run_answer, haldurap_add, (void *, haldurap_run, haldurap_record), run, record);
+    WRITTEN(haldurap_balance_answer, haldurap_balance, (void *, haldurap_run, uint64_t, uint64_t, uint64_t), run, 1, 1, 1000);
+    WRITTEN(haldurap_map_row_answer, haldurap_map_row, (void *, haldurap_run, uint64_t, uint64_t), run, 1, 1);
+    WRITTEN(haldurap_figure_answer, haldurap_figure_urban, (void *, haldurap_run, uint64_t, uint64_t), run, 1, 1);
+    WRITTEN(haldurap_figure_answer, haldurap_figure_rural, (void *, haldurap_run, uint64_t, uint64_t), run, 1, 1);
+    WRITTEN(haldurap_figure_answer, haldurap_figure_highway, (void *, haldurap_run, uint64_t, uint64_t), run, 1, 1);
+    WRITTEN(haldurap_figure_answer, haldurap_figure_cold, (void *, haldurap_run, uint64_t, uint64_t), run, 1, 1);
+    WRITTEN(haldurap_sheet_answer, haldurap_sheet, (void *, const uint8_t *, size_t), (const uint8_t *)"x", 1);
+}
+#else
+static void sizes_written(haldurap_run run) { (void)run; }
+#endif
+
+/* Beyond the lower half of a word. */
+#define HIGH (1ull << 32)
+
+/* Each field of a head and a record: a bad value is refused with its own number, a good one has its own effect. */
+static void inputs(haldurap_run run) {
+    haldurap_head h = head;
+    h.trip = 9;
+    same(haldurap_open(h).number, HALDURAP_TRIP_LENGTH, "head.trip", 0);
+    h.trip = HIGH + 120;
+    same(haldurap_open(h).number, HALDURAP_TRIP_LENGTH, "head.trip", 1);
+    for (int i = 0; i < 12; i++) {
+        h = head, h.temps[i] = -301;
+        same(haldurap_open(h).number, HALDURAP_TEMPERATURE, "head.temps", i);
+        h = head, h.temps[i] = (int64_t)HIGH + 100;
+        same(haldurap_open(h).number, HALDURAP_TEMPERATURE, "head.temps", i);
+    }
+    haldurap_record r;
+#define REFUSED(field, wrong, why) do { \
+        r = record, r.field = wrong, same(haldurap_add(run, r).number, why, "record." #field, 0); \
+        r = record, r.field += HIGH, same(haldurap_add(run, r).number, why, "record." #field, 1); \
+    } while (0)
+    REFUSED(vehicle_class, 0, HALDURAP_CLASS);
+    REFUSED(vehicles, 0, HALDURAP_VEHICLES);
+    REFUSED(km, 0, HALDURAP_KILOMETRES);
+    REFUSED(shares.urban, 41, HALDURAP_SHARES);
+    REFUSED(shares.rural, 41, HALDURAP_SHARES);
+    REFUSED(shares.highway, 21, HALDURAP_SHARES);
+    REFUSED(speeds.urban, 9, HALDURAP_SPEED);
+    REFUSED(speeds.rural, 9, HALDURAP_SPEED);
+    REFUSED(speeds.highway, 9, HALDURAP_SPEED);
+    /* the whole distance on one road: CO of class 2 at 20, 60 and 100 km/h */
+    r = record, r.shares = (haldurap_shares){100, 0, 0};
+    same(haldurap_add(run, r).run.grams[0], 15095000, "urban grams", 0);
+    r = record, r.shares = (haldurap_shares){0, 100, 0};
+    same(haldurap_add(run, r).run.grams[1], 15295000, "rural grams", 0);
+    r = record, r.shares = (haldurap_shares){0, 0, 100};
+    same(haldurap_add(run, r).run.grams[2], 34695000, "highway grams", 0);
+}
+
+/* Each word of a run: its limit tells the field, and its effect tells the place in it. */
+static void runs(haldurap_run fresh) {
+    typedef haldurap_grams_answer question(haldurap_run, uint64_t, uint64_t);
+    static question *const kinds[] = {haldurap_urban, haldurap_rural, haldurap_highway, haldurap_cold};
+    static const uint64_t class_of[] = {2, 6, 4};
+    haldurap_run r;
+#define LIMIT(field, most, i) do { \
+        r = fresh, r.count = 3, r.field = most, same(haldurap_total(r, 1, 1).number, 0, "run." #field " at its limit", i); \
+        r = fresh, r.count = 3, r.field = most + 1, same(haldurap_total(r, 1, 1).number, HALDURAP_RUN_ORDER, "run." #field " over it", i); \
+    } while (0)
+    LIMIT(trip, 200ull, 0);
+    LIMIT(count, 5000ull, 0);
+    for (int i = 0; i < 15; i++) LIMIT(x[i], 4900000000ull, i);
+    for (int i = 0; i < 3; i++) LIMIT(km[i], 3000000000ull, i);
+    for (int i = 0; i < 60; i++) LIMIT(grams[i], 3000000000000ull, i);
+    for (int i = 0; i < 60; i++) LIMIT(rests[i], 999999999ull, i);
+
+    for (int i = 0; i < 60; i++) {
+        /* a sum alone in the run is printed at its fuel, quantity and kind, and nowhere else */
+        r = fresh, r.count = 3, r.grams[i] = 1000 + (uint64_t)i, r.rests[i] = 500000000;
+        for (int j = 0; j < 60; j++)
+            same(kinds[j % 4](r, j / 20 + 1, j / 4 % 5 + 1).grams, i == j ? 1001 + (uint64_t)i : 0, "run.grams, run.rests", i);
+    }
+    for (int i = 0; i < 15; i++) {
+        /* X of 1: the cold factor is E, so the cold grams are those of the whole distance at the urban speed */
+        haldurap_record all = record;
+        all.vehicle_class = class_of[i / 5], all.shares = (haldurap_shares){100, 0, 0};
+        r = fresh, memset(r.x, 0, sizeof r.x), r.x[i] = 1000000000;
+        haldurap_run_answer a = haldurap_add(r, all);
+        for (int q = 0; q < 5; q++)
+            same(a.run.grams[i / 5 * 20 + q * 4 + 3], q == i % 5 ? a.run.grams[i / 5 * 20 + q * 4] : 0, "run.x", i);
+    }
+    for (int f = 0; f < 3; f++) {
+        haldurap_record one = record;
+        one.vehicle_class = class_of[f];
+        r = fresh, r.count = 7, r.km[0] = 1, r.km[1] = 2, r.km[2] = 3;
+        haldurap_run_answer a = haldurap_add(r, one);
+        same(a.run.count, 8, "run.count", f);
+        for (int g = 0; g < 3; g++) same(a.run.km[g], (uint64_t)g + 1 + (f == g ? 10000000 : 0), "run.km", g);
+    }
+}
+
+static void answers(haldurap_run run) {
+    haldurap_run_answer a = haldurap_open(head);
+    static const uint64_t x[] = {532440000, 23664000, 354960000, 0, 112404000};
+    same(a.number, 0, "run_answer.number", 0), same(a.run.trip, 120, "run_answer.run.trip", 0), same(a.run.count, 0, "run_answer.run.count", 0);
+    for (int i = 0; i < 5; i++) same(a.run.x[i], x[i], "run_answer.run.x", i);
+    same(haldurap_add(run, (haldurap_record){0}).number, HALDURAP_CLASS, "run_answer.number", 1);
+    haldurap_grams_answer g = haldurap_total(run, 1, 1);
+    same(g.number, 0, "grams_answer.number", 0), same(g.grams, 27132182, "grams_answer.grams", 0);
+    g = haldurap_total(run, 4, 1);
+    same(g.number, HALDURAP_FUEL_OR_QUANTITY, "grams_answer.number", 1), same(g.grams, 0, "grams_answer.grams", 1);
+    haldurap_balance_answer b = haldurap_balance(run, 1, 1, 1000);
+    same(b.number, 0, "balance_answer.number", 0), same(b.k, 1039246, "balance_answer.k", 0), same(b.grams, 28197012, "balance_answer.grams", 0);
+    same(haldurap_balance(run, 1, 1, 481).number, HALDURAP_SOLD_FUEL, "balance_answer.number", 1);
+    uint8_t buffer[400];
+    haldurap_length_answer l = haldurap_report(run, buffer, 400);
+    same(l.number, 0, "length_answer.number", 0), same(l.bytes, 388, "length_answer.bytes", 0);
+    same(haldurap_report(run, buffer, 387).number, HALDURAP_SHORT_BUFFER, "length_answer.number", 1);
+    haldurap_map_row_answer m = haldurap_map_row(run, 1, 1);
+    same(m.number, 0, "map_row_answer.number", 0), same((uint64_t)m.urban, 6038000, "map_row_answer.urban", 0);
+    same((uint64_t)m.rural, 6118000, "map_row_answer.rural", 0), same((uint64_t)m.highway, 6939000, "map_row_answer.highway", 0);
+    same((uint64_t)m.cold, 8037182, "map_row_answer.cold", 0);
+    same(haldurap_map_row(run, 0, 1).number, HALDURAP_FUEL_OR_QUANTITY, "map_row_answer.number", 1);
+    haldurap_figure_answer f = haldurap_figure_cold(run, 1, 1);
+    same(f.number, 0, "figure_answer.number", 0), same(f.given, 1, "figure_answer.given", 0), same((uint64_t)f.grams, 8037182, "figure_answer.grams", 0);
+    f = haldurap_figure_cold(run, 1, HALDURAP_PM);
+    same(f.number, 0, "figure_answer.number", 1), same(f.given, 0, "figure_answer.given", 1);
+    same(haldurap_figure_cold(run, 1, 6).number, HALDURAP_FUEL_OR_QUANTITY, "figure_answer.number", 2);
+    haldurap_layout_answer y = haldurap_layout();
+    same(y.version, HALDURAP_LAYOUT, "layout_answer.version", 0), same(y.size, sizeof(haldurap_run), "layout_answer.size", 0);
+    static const char text[] = "  120  100  100  100  100  100  100  100  100  100  100  100  100\n"
+                               " 2   1000  10000  40  40  20  20  60 100\n"
+                               " 0   1000  10000  40  40  20  20  60 100\n";
+    haldurap_sheet_answer s = haldurap_sheet((const uint8_t *)text, 107);
+    same(s.number, 0, "sheet_answer.number", 0), same(s.line, 0, "sheet_answer.line", 0);
+    same(memcmp(&s.run, &run, sizeof run), 0, "sheet_answer.run", 0);
+    s = haldurap_sheet((const uint8_t *)text, 148);
+    same(s.number, HALDURAP_CLASS, "sheet_answer.number", 1), same(s.line, 3, "sheet_answer.line", 1);
+}
+
+int main(void) {
+    haldurap_run fresh = haldurap_open(head).run, run = haldurap_add(fresh, record).run;
+    as_documented();
+    sizes_written(run);
+    inputs(fresh);
+    runs(fresh);
+    answers(run);
+    printf("C: %d sizes, offsets and values compared, %s\n", checked, failed ? "SOME DIFFER" : "all the same");
+    return failed;
+}

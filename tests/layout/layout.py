@@ -1,0 +1,186 @@
+"""Compares size and offsets of every struct of examples/haldurap.py with what the archive itself reads and writes; see
+layout.c for how. The shared object is the one that HALDURAP names, else target/libhaldurap.so."""
+import ctypes
+import os
+import platform
+import sys
+from ctypes import c_uint8, c_uint64, c_void_p, sizeof
+
+ROOT = os.path.join(os.path.dirname(os.path.abspath(__file__)), "..", "..")
+sys.path.insert(0, os.path.join(ROOT, "examples"))
+import haldurap as h  # noqa: E402
+
+done = failed = 0
+
+
+def same(found, wanted, what):
+    global done, failed
+    done += 1
+    if found != wanted:
+        print("layout.py: %s is %s, not %s" % (what, found, wanted))
+        failed += 1
+
+
+# The sizes and offsets that haldurap.h documents.
+DOCUMENTED = {
+    h.Head: (104, {"trip": 0, "temps": 8}),
+    h.Shares: (24, {"urban": 0, "rural": 8, "highway": 16}),
+    h.Speeds: (24, {"urban": 0, "rural": 8, "highway": 16}),
+    h.Record: (72, {"vehicle_class": 0, "vehicles": 8, "km": 16, "shares": 24, "speeds": 48}),
+    h.Run: (1120, {"trip": 0, "x": 8, "count": 128, "km": 136, "grams": 160, "rests": 640}),
+    h.RunAnswer: (1128, {"number": 0, "run": 8}),
+    h.GramsAnswer: (16, {"number": 0, "grams": 8}),
+    h.BalanceAnswer: (24, {"number": 0, "k": 8, "grams": 16}),
+    h.LengthAnswer: (16, {"number": 0, "bytes": 8}),
+    h.MapRowAnswer: (40, {"number": 0, "urban": 8, "rural": 16, "highway": 24, "cold": 32}),
+    h.FigureAnswer: (24, {"number": 0, "given": 8, "grams": 16}),
+    h.SheetAnswer: (1136, {"number": 0, "line": 8, "run": 16}),
+    h.LayoutAnswer: (16, {"version": 0, "size": 8}),
+}
+
+
+def as_documented():
+    for struct, (size, offsets) in DOCUMENTED.items():
+        same(sizeof(struct), size, "size of " + struct.__name__)
+        same({name: getattr(struct, name).offset for name, _ in struct._fields_}, offsets, struct.__name__)
+        same(sum(getattr(struct, name).size for name, _ in struct._fields_), size, "fields of " + struct.__name__)
+
+
+def head():
+    return h.head(120, [100] * 12)
+
+
+def record(vehicle_class=2, vehicles=1000, km=10000, shares=(40, 40, 20), speeds=(20, 60, 100)):
+    return h.record(vehicle_class, vehicles, km, shares, speeds)
+
+
+def changed(run, **fields):
+    """A copy of a run with other fields; an array's entry is name=(place, value)."""
+    run = h.Run.from_buffer_copy(run)
+    for name, value in fields.items():
+        if isinstance(value, tuple):
+            getattr(run, name)[value[0]] = value[1]
+        else:
+            setattr(run, name, value)
+    return run
+
+
+def sizes_written(run):
+    """The place of an answer of more than 16 bytes is a first, hidden argument: handed in openly, twice with other bytes
+    beforehand, it shows which bytes the archive writes."""
+    if platform.machine() != "x86_64" or os.name != "posix":
+        return
+    values = {"open": (head(),), "add": (run, record()), "balance": (run, 1, 1, 1000), "sheet": ((c_uint8 * 1)(120), 1)}
+    for name in ("open", "add", "balance", "map_row", "figure_urban", "figure_rural", "figure_highway", "figure_cold", "sheet"):
+        parameters, answer = h.CALLS[name]
+        raw = ctypes.CFUNCTYPE(c_void_p, c_void_p, *parameters)(("haldurap_" + name, h._lib))
+        places = [(c_uint8 * 4096)(*[byte] * 4096) for byte in (0, 255)]
+        for place in places:
+            raw(ctypes.addressof(place), *values.get(name, (run, 1, 1)))
+        same([i for i in range(4096) if places[0][i] == places[1][i]], list(range(sizeof(answer))), "bytes that %s writes" % name)
+
+
+def inputs(run):
+    """Each field of a head and a record: a bad value is refused with its own number, a good one has its own effect."""
+    high = 1 << 32  # beyond the lower half of a word
+    for trip in (9, high + 120):
+        same(h.call("open")(h.head(trip, [100] * 12)).number, 1, "Head.trip")
+    for i in range(12):
+        for t in (-301, high + 100):
+            same(h.call("open")(h.head(120, [100] * i + [t] + [100] * (11 - i))).number, 2, "Head.temps")
+    add = h.call("add")
+    for number, fields in ((3, {"vehicle_class": 0}), (4, {"vehicles": 0}), (5, {"km": 0}),
+                           (3, {"vehicle_class": high + 2}), (4, {"vehicles": high + 1000}), (5, {"km": high + 10000}),
+                           (7, {"shares": (41, 40, 20)}), (7, {"shares": (40, 41, 20)}), (7, {"shares": (40, 40, 21)}),
+                           (7, {"shares": (high + 40, 40, 20)}), (7, {"shares": (40, high + 40, 20)}), (7, {"shares": (40, 40, high + 20)}),
+                           (8, {"speeds": (9, 60, 100)}), (8, {"speeds": (20, 9, 100)}), (8, {"speeds": (20, 60, 9)}),
+                           (8, {"speeds": (high + 20, 60, 100)}), (8, {"speeds": (20, high + 60, 100)}), (8, {"speeds": (20, 60, high + 100)})):
+        same(add(run, record(**fields)).number, number, "Record, %s" % fields)
+    # the whole distance on one road: CO of class 2 at 20, 60 and 100 km/h
+    for road, grams in enumerate((15095000, 15295000, 34695000)):
+        same(add(run, record(shares=[100 if i == road else 0 for i in range(3)])).run.grams[road], grams, "grams of one road")
+
+
+def runs(fresh):
+    """Each word of a run: its limit tells the field, and its effect tells the place in it."""
+    total, add = h.call("total"), h.call("add")
+    fresh = changed(fresh, count=3)
+
+    def limit(name, most, places=None):
+        for i in range(places or 1):
+            for value, number in ((most, 0), (most + 1, 16)):
+                run = changed(fresh, **{name: (i, value) if places else value})
+                same(total(run, 1, 1).number, number, "Run.%s" % name)
+
+    limit("trip", 200)
+    limit("count", 5000)
+    limit("x", 4900000000, 15)
+    limit("km", 3000000000, 3)
+    limit("grams", 3000000000000, 60)
+    limit("rests", 999999999, 60)
+    kinds = [h.call(kind) for kind in ("urban", "rural", "highway", "cold")]
+    for i in range(60):
+        # a sum alone in the run is printed at its fuel, quantity and kind, and nowhere else
+        run = changed(fresh, grams=(i, 1000 + i), rests=(i, 500000000))
+        printed = [kinds[j % 4](run, j // 20 + 1, j // 4 % 5 + 1).grams for j in range(60)]
+        same(printed, [1001 + i if i == j else 0 for j in range(60)], "Run.grams, Run.rests")
+    classes = (2, 6, 4)
+    for i in range(15):
+        # X of 1: the cold factor is E, so the cold grams are those of the whole distance at the urban speed
+        run = changed(fresh, x=(i, 1000000000))
+        for j in range(15):
+            if j != i:
+                run.x[j] = 0
+        after = add(run, record(vehicle_class=classes[i // 5], shares=(100, 0, 0))).run
+        for q in range(5):
+            at = i // 5 * 20 + q * 4
+            same(after.grams[at + 3], after.grams[at] if q == i % 5 else 0, "Run.x")
+    for fuel in range(3):
+        run = changed(fresh, count=7)
+        run.km[:] = [1, 2, 3]
+        after = add(run, record(vehicle_class=classes[fuel])).run
+        same((after.count, list(after.km)), (8, [g + 1 + (10000000 if g == fuel else 0) for g in range(3)]), "Run.count, Run.km")
+
+
+def fields(answer):
+    return tuple(getattr(answer, name) for name, _ in answer._fields_)
+
+
+def answers(run):
+    a = h.call("open")(head())
+    same((a.number, a.run.trip, a.run.count, a.run.x[:5]), (0, 120, 0, [532440000, 23664000, 354960000, 0, 112404000]), "RunAnswer")
+    same(fields(h.call("total")(run, 1, 1)), (0, 27132182), "GramsAnswer")
+    same(fields(h.call("total")(run, 4, 1)), (11, 0), "GramsAnswer")
+    same(fields(h.call("balance")(run, 1, 1, 1000)), (0, 1039246, 28197012), "BalanceAnswer")
+    same(fields(h.call("balance")(run, 1, 1, 481)), (13, 0, 0), "BalanceAnswer")
+    buffer = (c_uint8 * 400)()
+    same(fields(h.call("report")(run, buffer, 400)), (0, 388), "LengthAnswer")
+    same(fields(h.call("report")(run, buffer, 387)), (14, 0), "LengthAnswer")
+    same(fields(h.call("map_row")(run, 1, 1)), (0, 6038000.0, 6118000.0, 6939000.0, 8037182.0), "MapRowAnswer")
+    same(fields(h.call("map_row")(run, 0, 1)), (11, 0.0, 0.0, 0.0, 0.0), "MapRowAnswer")
+    same(fields(h.call("figure_cold")(run, 1, 1)), (0, 1, 8037182.0), "FigureAnswer")
+    same(fields(h.call("figure_cold")(run, 1, 4)), (0, 0, 0.0), "FigureAnswer")
+    same(fields(h.call("figure_cold")(run, 1, 6)), (11, 0, 0.0), "FigureAnswer")
+    same(fields(h.call("layout")()), (h.LAYOUT, sizeof(h.Run)), "LayoutAnswer")
+    text = (b"  120" + b"  100" * 12 + b"\n 2   1000  10000  40  40  20  20  60 100\n"
+            b" 0   1000  10000  40  40  20  20  60 100\n")
+    a = h.call("sheet")(h._bytes(text), 107)
+    same((a.number, a.line, bytes(a.run)), (0, 0, bytes(run)), "SheetAnswer")
+    a = h.call("sheet")(h._bytes(text), len(text))
+    same((a.number, a.line, bytes(a.run)), (3, 3, bytes(1120)), "SheetAnswer")
+    same(h.report_sheet(text), b"REFUSED  3     3\n", "report_sheet")
+
+
+def main():
+    fresh = h.open_run(head())
+    run = h.add(fresh, record())
+    as_documented()
+    sizes_written(run)
+    inputs(fresh)
+    runs(fresh)
+    answers(run)
+    print("Python: %d sizes, offsets and values compared, %s" % (done, "SOME DIFFER" if failed else "all the same"))
+    sys.exit(1 if failed else 0)
+
+
+main()

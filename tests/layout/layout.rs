@@ -1,0 +1,223 @@
+//! Compares size and offsets of every struct of include/haldurap.rs with what the archive itself reads and writes; see
+//! layout.c for how.
+#[path = "../../include/haldurap.rs"]
+mod haldurap;
+use haldurap::*;
+use std::mem::{offset_of, transmute};
+
+struct Check {
+    done: u32,
+    failed: bool,
+}
+
+impl Check {
+    fn same<T: PartialEq + std::fmt::Debug>(&mut self, found: T, wanted: T, what: &str) {
+        self.done += 1;
+        if found != wanted {
+            println!("layout.rs: {what} is {found:?}, not {wanted:?}");
+            self.failed = true;
+        }
+    }
+}
+
+const HEAD: Head = Head { trip: 120, temps: [100; 12] };
+const RECORD: Record = Record {
+    class: 2,
+    vehicles: 1000,
+    km: 10000,
+    shares: Shares { urban: 40, rural: 40, highway: 20 },
+    speeds: Speeds { urban: 20, rural: 60, highway: 100 },
+};
+
+macro_rules! struct_is {
+    ($c:ident, $type:ident, $size:expr, $($field:ident $offset:expr),*) => {
+        $c.same(size_of::<$type>(), $size, concat!("size of ", stringify!($type)));
+        // a field ends where the next one begins: there is no padding
+        let mut end = 0;
+        let value: $type = unsafe { std::mem::zeroed() };
+        $($c.same(offset_of!($type, $field), $offset, concat!(stringify!($type), ".", stringify!($field)));
+          $c.same($offset, end, concat!("end of the field before ", stringify!($type), ".", stringify!($field)));
+          end += size_of_val(&value.$field);)*
+        $c.same(end, $size, concat!("end of ", stringify!($type)));
+    };
+}
+
+/// The sizes and offsets that haldurap.h documents.
+fn as_documented(c: &mut Check) {
+    struct_is!(c, Head, 104, trip 0, temps 8);
+    struct_is!(c, Shares, 24, urban 0, rural 8, highway 16);
+    struct_is!(c, Speeds, 24, urban 0, rural 8, highway 16);
+    struct_is!(c, Record, 72, class 0, vehicles 8, km 16, shares 24, speeds 48);
+    struct_is!(c, Run, 1120, trip 0, x 8, count 128, km 136, grams 160, rests 640);
+    struct_is!(c, RunAnswer, 1128, number 0, run 8);
+    struct_is!(c, GramsAnswer, 16, number 0, grams 8);
+    struct_is!(c, BalanceAnswer, 24, number 0, k 8, grams 16);
+    struct_is!(c, LengthAnswer, 16, number 0, bytes 8);
+    struct_is!(c, MapRowAnswer, 40, number 0, urban 8, rural 16, highway 24, cold 32);
+    struct_is!(c, FigureAnswer, 24, number 0, given 8, grams 16);
+    struct_is!(c, SheetAnswer, 1136, number 0, line 8, run 16);
+    struct_is!(c, LayoutAnswer, 16, version 0, size 8);
+}
+
+/// The bytes that a call writes to the place of its answer: which of them are the same whatever stood there before.
+fn written(c: &mut Check, size: usize, what: &str, call: impl Fn(*mut u8) -> *mut u8) {
+    let (mut zeros, mut ones) = ([0u8; 4096], [255u8; 4096]);
+    call(zeros.as_mut_ptr());
+    call(ones.as_mut_ptr());
+    let places: Vec<usize> = (0..4096).filter(|&i| zeros[i] == ones[i]).collect();
+    c.same(places, (0..size).collect(), &format!("bytes that {what} writes"));
+}
+
+type Question<T> = extern "C" fn(Run, u64, u64) -> T;
+
+#[cfg(all(target_arch = "x86_64", unix))]
+fn sizes_written(c: &mut Check, run: Run) {
+    // The place of an answer of more than 16 bytes is a first, hidden argument.
+    type Raw<T> = extern "C" fn(*mut u8, T) -> *mut u8;
+    let raw: Raw<Head> = unsafe { transmute(haldurap_open as extern "C" fn(Head) -> RunAnswer) };
+    written(c, size_of::<RunAnswer>(), "open", |p| raw(p, HEAD));
+    let raw: extern "C" fn(*mut u8, Run, Record) -> *mut u8 =
+        unsafe { transmute(haldurap_add as extern "C" fn(Run, Record) -> RunAnswer) };
+    written(c, size_of::<RunAnswer>(), "add", |p| raw(p, run, RECORD));
+    let raw: extern "C" fn(*mut u8, Run, u64, u64, u64) -> *mut u8 =
+        unsafe { transmute(haldurap_balance as extern "C" fn(Run, u64, u64, u64) -> BalanceAnswer) };
+    written(c, size_of::<BalanceAnswer>(), "balance", |p| raw(p, run, 1, 1, 1000));
+    type RawQuestion = extern "C" fn(*mut u8, Run, u64, u64) -> *mut u8;
+    let raw: RawQuestion = unsafe { transmute(haldurap_map_row as Question<MapRowAnswer>) };
+    written(c, size_of::<MapRowAnswer>(), "map_row", |p| raw(p, run, 1, 1));
+    let figures: [Question<FigureAnswer>; 4] = [haldurap_figure_urban, haldurap_figure_rural, haldurap_figure_highway, haldurap_figure_cold];
+    for figure in figures {
+        let raw: RawQuestion = unsafe { transmute(figure) };
+        written(c, size_of::<FigureAnswer>(), "figure", |p| raw(p, run, 1, 1));
+    }
+    let raw: extern "C" fn(*mut u8, *const u8, usize) -> *mut u8 =
+        unsafe { transmute(haldurap_sheet as unsafe extern "C" fn(*const u8, usize) -> SheetAnswer) };
+    written(c, size_of::<SheetAnswer>(), "sheet", |p| raw(p, b"x".as_ptr(), 1));
+}
+
+#[cfg(not(all(target_arch = "x86_64", unix)))]
+fn sizes_written(_: &mut Check, _: Run) {}
+
+/// Each field of a head and a record: a bad value is refused with its own number, a good one has its own effect.
+fn inputs(c: &mut Check, run: Run) {
+    const HIGH: u64 = 1 << 32; // beyond the lower half of a word
+    c.same(haldurap_open(Head { trip: 9, ..HEAD }).number, 1, "Head.trip");
+    c.same(haldurap_open(Head { trip: HIGH + 120, ..HEAD }).number, 1, "Head.trip");
+    for i in 0..12 {
+        let mut head = HEAD;
+        head.temps[i] = -301;
+        c.same(haldurap_open(head).number, 2, "Head.temps");
+        head.temps[i] = HIGH as i64 + 100;
+        c.same(haldurap_open(head).number, 2, "Head.temps");
+    }
+    let fields: [(&str, u64, u64, fn(&mut Record) -> &mut u64); 9] = [
+        ("Record.class", 0, 3, |r| &mut r.class),
+        ("Record.vehicles", 0, 4, |r| &mut r.vehicles),
+        ("Record.km", 0, 5, |r| &mut r.km),
+        ("Shares.urban", 41, 7, |r| &mut r.shares.urban),
+        ("Shares.rural", 41, 7, |r| &mut r.shares.rural),
+        ("Shares.highway", 21, 7, |r| &mut r.shares.highway),
+        ("Speeds.urban", 9, 8, |r| &mut r.speeds.urban),
+        ("Speeds.rural", 9, 8, |r| &mut r.speeds.rural),
+        ("Speeds.highway", 9, 8, |r| &mut r.speeds.highway),
+    ];
+    for (what, wrong, number, field) in fields {
+        let mut record = RECORD;
+        *field(&mut record) = wrong;
+        c.same(haldurap_add(run, record).number, number, what);
+        let mut record = RECORD;
+        *field(&mut record) += HIGH;
+        c.same(haldurap_add(run, record).number, number, what);
+    }
+    // the whole distance on one road: CO of class 2 at 20, 60 and 100 km/h
+    for (road, grams) in [15_095_000, 15_295_000, 34_695_000].into_iter().enumerate() {
+        let share = |i| if i == road { 100 } else { 0 };
+        let record = Record { shares: Shares { urban: share(0), rural: share(1), highway: share(2) }, ..RECORD };
+        c.same(haldurap_add(run, record).run.grams[road], grams, "grams of one road");
+    }
+}
+
+/// Each word of a run: its limit tells the field, and its effect tells the place in it.
+fn runs(c: &mut Check, fresh: Run) {
+    let kinds: [Question<GramsAnswer>; 4] = [haldurap_urban, haldurap_rural, haldurap_highway, haldurap_cold];
+    let fresh = Run { count: 3, ..fresh };
+    let mut limit = |what: &str, most: u64, field: &dyn Fn(&mut Run) -> &mut u64| {
+        let mut run = fresh;
+        *field(&mut run) = most;
+        c.same(haldurap_total(run, 1, 1).number, 0, what);
+        *field(&mut run) = most + 1;
+        c.same(haldurap_total(run, 1, 1).number, 16, what);
+    };
+    limit("Run.trip", 200, &|r| &mut r.trip);
+    limit("Run.count", 5000, &|r| &mut r.count);
+    (0..15).for_each(|i| limit("Run.x", 4_900_000_000, &|r| &mut r.x[i]));
+    (0..3).for_each(|i| limit("Run.km", 3_000_000_000, &|r| &mut r.km[i]));
+    (0..60).for_each(|i| limit("Run.grams", 3_000_000_000_000, &|r| &mut r.grams[i]));
+    (0..60).for_each(|i| limit("Run.rests", 999_999_999, &|r| &mut r.rests[i]));
+
+    for i in 0..60u64 {
+        // a sum alone in the run is printed at its fuel, quantity and kind, and nowhere else
+        let mut run = fresh;
+        (run.grams[i as usize], run.rests[i as usize]) = (1000 + i, 500_000_000);
+        for j in 0..60 {
+            let printed = kinds[j as usize % 4](run, j / 20 + 1, j / 4 % 5 + 1).grams;
+            c.same(printed, if i == j { 1001 + i } else { 0 }, "Run.grams, Run.rests");
+        }
+    }
+    let class_of = [2, 6, 4];
+    for i in 0..15 {
+        // X of 1: the cold factor is E, so the cold grams are those of the whole distance at the urban speed
+        let (fuel, quantity) = (i / 5, i % 5);
+        let record = Record { class: class_of[fuel], shares: Shares { urban: 100, rural: 0, highway: 0 }, ..RECORD };
+        let mut run = Run { x: [0; 15], ..fresh };
+        run.x[i] = 1_000_000_000;
+        let after = haldurap_add(run, record).run;
+        for q in 0..5 {
+            let at = fuel * 20 + q * 4;
+            c.same(after.grams[at + 3], if q == quantity { after.grams[at] } else { 0 }, "Run.x");
+        }
+    }
+    for fuel in 0..3 {
+        let run = Run { count: 7, km: [1, 2, 3], ..fresh };
+        let after = haldurap_add(run, Record { class: class_of[fuel], ..RECORD }).run;
+        let mut km = [1, 2, 3];
+        km[fuel] += 10_000_000;
+        c.same((after.count, after.km), (8, km), "Run.count, Run.km");
+    }
+}
+
+fn answers(c: &mut Check, run: Run) {
+    let a = haldurap_open(HEAD);
+    let x: [u64; 5] = a.run.x[..5].try_into().unwrap();
+    c.same((a.number, a.run.trip, a.run.count, x), (0, 120, 0, [532_440_000, 23_664_000, 354_960_000, 0, 112_404_000]), "RunAnswer");
+    c.same(haldurap_total(run, 1, 1), GramsAnswer { number: 0, grams: 27_132_182 }, "GramsAnswer");
+    c.same(haldurap_total(run, 4, 1), GramsAnswer { number: 11, grams: 0 }, "GramsAnswer");
+    c.same(haldurap_balance(run, 1, 1, 1000), BalanceAnswer { number: 0, k: 1_039_246, grams: 28_197_012 }, "BalanceAnswer");
+    c.same(haldurap_balance(run, 1, 1, 481), BalanceAnswer { number: 13, k: 0, grams: 0 }, "BalanceAnswer");
+    c.same(report(run, &mut [0; 400]), LengthAnswer { number: 0, bytes: 388 }, "LengthAnswer");
+    c.same(report(run, &mut [0; 387]), LengthAnswer { number: 14, bytes: 0 }, "LengthAnswer");
+    let row = MapRowAnswer { number: 0, urban: 6_038_000.0, rural: 6_118_000.0, highway: 6_939_000.0, cold: 8_037_182.0 };
+    c.same(haldurap_map_row(run, 1, 1), row, "MapRowAnswer");
+    c.same(haldurap_map_row(run, 0, 1).number, 11, "MapRowAnswer");
+    c.same(haldurap_figure_cold(run, 1, 1), FigureAnswer { number: 0, given: 1, grams: 8_037_182.0 }, "FigureAnswer");
+    c.same(haldurap_figure_cold(run, 1, 4), FigureAnswer { number: 0, given: 0, grams: 0.0 }, "FigureAnswer");
+    c.same(haldurap_figure_cold(run, 1, 6), FigureAnswer { number: 11, given: 0, grams: 0.0 }, "FigureAnswer");
+    c.same(haldurap_layout(), LayoutAnswer { version: LAYOUT, size: size_of::<Run>() as u64 }, "LayoutAnswer");
+    let text = b"  120  100  100  100  100  100  100  100  100  100  100  100  100\n 2   1000  10000  40  40  20  20  60 100\n 0   1000  10000  40  40  20  20  60 100\n";
+    c.same(sheet(&text[..107]), SheetAnswer { number: 0, line: 0, run }, "SheetAnswer");
+    let zeros = Run { trip: 0, x: [0; 15], count: 0, km: [0; 3], grams: [0; 60], rests: [0; 60] };
+    c.same(sheet(text), SheetAnswer { number: 3, line: 3, run: zeros }, "SheetAnswer");
+}
+
+fn main() {
+    let mut c = Check { done: 0, failed: false };
+    let fresh = haldurap_open(HEAD).run;
+    let run = haldurap_add(fresh, RECORD).run;
+    as_documented(&mut c);
+    sizes_written(&mut c, run);
+    inputs(&mut c, fresh);
+    runs(&mut c, fresh);
+    answers(&mut c, run);
+    println!("Rust: {} sizes, offsets and values compared, {}", c.done, if c.failed { "SOME DIFFER" } else { "all the same" });
+    std::process::exit(c.failed as i32);
+}
