@@ -48,7 +48,7 @@ module _ (run : Run) (rec : Record) (fuel : ℕ) (ef : fuel ≡ fuelOf (rec .cla
           trip = r .trip;
           x = r .x;
           count = r .count + 1;
-          km = set (r .km) fuel (record { 0 = kmIn run fuel + vehicleKm rec });
+          km = set (r .km) fuel (record { 0 = kmIn r fuel + vehicleKm rec });
           grams = r .grams;
           rests = r .rests;
         })

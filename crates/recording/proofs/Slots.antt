@@ -5,7 +5,9 @@ use mathlib.Core.List.{List}
 use Prim.Native.Nat.{ℕ, _+_, _*_, _≤_, _<_}
 use native.Mathlib.Omega.{arith}
 use lib.ListN.{getD}
+use Rattle.units.specs.declared.Grams.{Grams}
 use Rattle.units.specs.Lists.{tab}
+use Rattle.units.proofs.Between.{Between}
 use Rattle.factors.specs.Factors.{fuelOf, hasCold, factorAt}
 use Rattle.factors.proofs.Factors.{fuel-below, factor-read}
 use Rattle.coldstart.specs.ColdStart.{coldFactor}
@@ -52,3 +54,9 @@ module _ (rec : Record) (f : List ℕ) (given : Factors rec f) (q : ℕ) (hq : q
         → s ≡ billionths (gramsIn run j * 1000000000 + restIn run j + rec .vehicles * rec .km * c * 100) → s ≡ slotAfter run rec j
     unfolding slotAfter vehicleKm
     cold-made j c s ej ec e = e ∙ ap billionths (rw (rate-is c ec) (cold-slot run rec fuel q ef hq j ej))
+
+-- ---- a sum that is not written yet is that of the old run
+
+pub above-grams : {f : ℕ → Grams} {l₀ : List Grams} {n lo hi : ℕ} {l : List Grams} → Between (record { 0 = 0 }) f l₀ n lo hi l → (j : ℕ) → hi ≤ j
+    → getD l j (record { 0 = 0 }) .0 ≡ getD l₀ j (record { 0 = 0 }) .0
+above-grams b j h = ap (λ g. g .0) (b .above j h)

@@ -231,23 +231,23 @@ fn run_with(run: Run, rec: Record) -> Run
     while q < 5 {
         let b = fuel * 20 + q * 4;
         let e = f[q * 3];
-        let c = cold_rate(rec.class, e, run.x[fuel * 5 + q]);
-        let s0 = with_hot(run.grams[b], run.rests[b], k, shares.urban, e);
+        let c = cold_rate(rec.class, e, r.x[fuel * 5 + q]);
+        let s0 = with_hot(r.grams[b], r.rests[b], k, shares.urban, e);
         let s1 = with_hot(
-            run.grams[b + 1],
-            run.rests[b + 1],
+            r.grams[b + 1],
+            r.rests[b + 1],
             k,
             shares.rural,
             f[q * 3 + 1],
         );
         let s2 = with_hot(
-            run.grams[b + 2],
-            run.rests[b + 2],
+            r.grams[b + 2],
+            r.rests[b + 2],
             k,
             shares.highway,
             f[q * 3 + 2],
         );
-        let s3 = with_cold(run.grams[b + 3], run.rests[b + 3], k, c);
+        let s3 = with_cold(r.grams[b + 3], r.rests[b + 3], k, c);
         let m = s0.grams;
         r.grams[b] = m;
         r.rests[b] = s0.rest;
@@ -262,7 +262,7 @@ fn run_with(run: Run, rec: Record) -> Run
         r.rests[b + 3] = s3.rest;
         q += 1;
     }
-    let m = run.km[fuel];
+    let m = r.km[fuel];
     let m = VehicleKm(m.0 + k.0);
     r.km[fuel] = m;
     r.count += 1;

@@ -1,26 +1,29 @@
 -- `recording::run_with` meets its contract. Assumes nothing.
 use mathlib.Core.Path.{_≡_, refl, ap, sym, _∙_}
+use mathlib.Core.List.{List}
 use Prim.Native.Nat.{_+_, _*_, _-_, _≤_, _<_}
 use native.Mathlib.Omega.{arith}
+use lib.ListN.{getD}
 use Rattle.units.proofs.Between.{Between, between-none, between-more, length-of}
+use Rattle.units.specs.declared.VehicleKm.{VehicleKm}
 use Rattle.factors.specs.Factors.{fuelOf}
 use Rattle.inventory.specs.Records.{vehicleKm}
 use Rattle.inventory.specs.Adding.{gramsAfter, restAfter, slotAfter}
-use Rattle.recording.proofs.Slots.{fuel-most, factor-small, rate-small, hot-made, cold-made}
+use Rattle.recording.proofs.Slots.{fuel-most, factor-small, rate-small, hot-made, cold-made, above-grams}
 use Rattle.recording.proofs.Made.{made}
 use borrow.Author.Needs.{needs}
 use Rattle.recording.proofs.run_with.Statement.{statement}
 use Rattle.recording.proofs.run_with.Tie as tie
 
 abbrev Inv-loop : tie.InvT-loop
-Inv-loop rec run r₀ shares fuel k f q₀ r q =
+Inv-loop rec r₀ shares fuel k f q₀ r q =
     (q ≤ 5) × (fuel ≤ 2)
-    × Between (record { 0 = 0 }) (gramsAfter run rec) (run .grams) 60 (fuel * 20) (fuel * 20 + q * 4) (r .grams)
-    × Between 0 (restAfter run rec) (run .rests) 60 (fuel * 20) (fuel * 20 + q * 4) (r .rests)
-    × (r .trip ≡ run .trip) × (r .x ≡ run .x) × (r .count ≡ run .count) × (r .km ≡ run .km)
+    × Between (record { 0 = 0 }) (gramsAfter r₀ rec) (r₀ .grams) 60 (fuel * 20) (fuel * 20 + q * 4) (r .grams)
+    × Between 0 (restAfter r₀ rec) (r₀ .rests) 60 (fuel * 20) (fuel * 20 + q * 4) (r .rests)
+    × (r .trip ≡ r₀ .trip) × (r .x ≡ r₀ .x) × (r .count ≡ r₀ .count) × (r .km ≡ r₀ .km)
 
 abbrev μ-loop : tie.MeasureT-loop
-μ-loop rec run r₀ shares fuel k f q₀ r q = 5 - q
+μ-loop rec r₀ shares fuel k f q₀ r q = 5 - q
 
 fuel-of-requires : tie.Need-fuel-of-requires Inv-loop μ-loop
 fuel-of-requires c κs = search needs
@@ -75,7 +78,7 @@ element-copy-out-cold-rate : tie.Need-element-copy-out-cold-rate Inv-loop μ-loo
 element-copy-out-cold-rate c = search needs
 
 cold-rate-requires : tie.Need-cold-rate-requires Inv-loop μ-loop
-cold-rate-requires c κs = (factor-small (c .before .before .before .before .before .before .before .args .rec) _ (c .before .before .before .factors-of .ensures) (c .before .before .loop .q) (c .before .loop-test .taken) (c .before .before .before .before .before .before .before .pre .0) 0 ((c .before .before .loop .q) * 3) (omega arith) (omega arith), c .before .before .before .before .before .before .before .pre .1 .0 .x-most _ (omega (arith, c .before .before .loop .inv .0, c .before .before .loop .inv .1, c .before .loop-test .taken)))
+cold-rate-requires c κs = (factor-small (c .before .before .before .before .before .before .before .args .rec) _ (c .before .before .before .factors-of .ensures) (c .before .before .loop .q) (c .before .loop-test .taken) (c .before .before .before .before .before .before .before .pre .0) 0 ((c .before .before .loop .q) * 3) (omega arith) (omega arith), rw (ap (λ xs. getD xs ((c .before .before .before .before .before .fuel-of .result) * 5 + (c .before .before .loop .q)) 0) (c .before .before .loop .inv .5)) (c .before .before .before .before .before .before .before .pre .1 .0 .x-most ((c .before .before .before .before .before .fuel-of .result) * 5 + (c .before .before .loop .q)) (omega (arith, c .before .before .loop .inv .0, c .before .before .loop .inv .1, c .before .loop-test .taken))))
 
 mul-with-hot : tie.Need-mul-with-hot Inv-loop μ-loop
 mul-with-hot c = omega (arith, c .before .before .before .loop .inv .0, c .before .before .before .loop .inv .1, c .before .before .loop-test .taken)
@@ -91,7 +94,7 @@ element-copy-out-with-hot-2 c = omega (arith, c .before .before .before .before 
 
 with-hot-requires : tie.Need-with-hot-requires Inv-loop μ-loop
 unfolding vehicleKm
-with-hot-requires c κs = (((c .before .before .before .before .before .before .before .before .before .before .pre .1 .0 .grams-most _ (omega (arith, c .before .before .before .before .before .loop .inv .0, c .before .before .before .before .before .loop .inv .1, c .before .before .before .before .loop-test .taken))), (c .before .before .before .before .before .before .before .before .before .before .pre .1 .0 .rest-below _ (omega (arith, c .before .before .before .before .before .loop .inv .0, c .before .before .before .before .before .loop .inv .1, c .before .before .before .before .loop-test .taken)))), (c .before .before .before .before .before .before .before .before .before .before .pre .0 .distance, c .before .before .before .before .before .before .before .before .before .before .pre .0 .share 0 (omega arith), factor-small (c .before .before .before .before .before .before .before .before .before .before .args .rec) _ (c .before .before .before .before .before .before .factors-of .ensures) (c .before .before .before .before .before .loop .q) (c .before .before .before .before .loop-test .taken) (c .before .before .before .before .before .before .before .before .before .before .pre .0) 0 ((c .before .before .before .before .before .loop .q) * 3) (omega arith) (omega arith)))
+with-hot-requires c κs = ((rw (above-grams (c .before .before .before .before .before .loop .inv .2) ((c .before .before .before .before .before .before .before .before .fuel-of .result) * 20 + (c .before .before .before .before .before .loop .q) * 4) (omega (arith, c .before .before .before .before .before .loop .inv .0, c .before .before .before .before .before .loop .inv .1, c .before .before .before .before .loop-test .taken))) (c .before .before .before .before .before .before .before .before .before .before .pre .1 .0 .grams-most ((c .before .before .before .before .before .before .before .before .fuel-of .result) * 20 + (c .before .before .before .before .before .loop .q) * 4) (omega (arith, c .before .before .before .before .before .loop .inv .0, c .before .before .before .before .before .loop .inv .1, c .before .before .before .before .loop-test .taken))), rw (c .before .before .before .before .before .loop .inv .3 .above ((c .before .before .before .before .before .before .before .before .fuel-of .result) * 20 + (c .before .before .before .before .before .loop .q) * 4) (omega (arith, c .before .before .before .before .before .loop .inv .0, c .before .before .before .before .before .loop .inv .1, c .before .before .before .before .loop-test .taken))) (c .before .before .before .before .before .before .before .before .before .before .pre .1 .0 .rest-below ((c .before .before .before .before .before .before .before .before .fuel-of .result) * 20 + (c .before .before .before .before .before .loop .q) * 4) (omega (arith, c .before .before .before .before .before .loop .inv .0, c .before .before .before .before .before .loop .inv .1, c .before .before .before .before .loop-test .taken)))), (c .before .before .before .before .before .before .before .before .before .before .pre .0 .distance, c .before .before .before .before .before .before .before .before .before .before .pre .0 .share 0 (omega arith), factor-small (c .before .before .before .before .before .before .before .before .before .before .args .rec) _ (c .before .before .before .before .before .before .factors-of .ensures) (c .before .before .before .before .before .loop .q) (c .before .before .before .before .loop-test .taken) (c .before .before .before .before .before .before .before .before .before .before .pre .0) 0 ((c .before .before .before .before .before .loop .q) * 3) (omega arith) (omega arith)))
 
 add-with-hot : tie.Need-add-with-hot Inv-loop μ-loop
 add-with-hot c = omega (arith, c .before .before .before .before .before .before .loop .inv .0, c .before .before .before .before .before .before .loop .inv .1, c .before .before .before .before .before .loop-test .taken)
@@ -125,7 +128,7 @@ array-read-with-hot c = omega (arith, c .before .before .before .before .before 
 
 with-hot-requires-2 : tie.Need-with-hot-requires-2 Inv-loop μ-loop
 unfolding vehicleKm
-with-hot-requires-2 c κs = (((c .before .before .before .before .before .before .before .before .before .before .before .before .before .pre .1 .0 .grams-most _ (omega (arith, c .before .before .before .before .before .before .before .before .loop .inv .0, c .before .before .before .before .before .before .before .before .loop .inv .1, c .before .before .before .before .before .before .before .loop-test .taken))), (c .before .before .before .before .before .before .before .before .before .before .before .before .before .pre .1 .0 .rest-below _ (omega (arith, c .before .before .before .before .before .before .before .before .loop .inv .0, c .before .before .before .before .before .before .before .before .loop .inv .1, c .before .before .before .before .before .before .before .loop-test .taken)))), (c .before .before .before .before .before .before .before .before .before .before .before .before .before .pre .0 .distance, c .before .before .before .before .before .before .before .before .before .before .before .before .before .pre .0 .share 1 (omega arith), factor-small (c .before .before .before .before .before .before .before .before .before .before .before .before .before .args .rec) _ (c .before .before .before .before .before .before .before .before .before .factors-of .ensures) (c .before .before .before .before .before .before .before .before .loop .q) (c .before .before .before .before .before .before .before .loop-test .taken) (c .before .before .before .before .before .before .before .before .before .before .before .before .before .pre .0) 1 ((c .before .before .before .before .before .before .before .before .loop .q) * 3 + 1) (omega arith) (omega arith)))
+with-hot-requires-2 c κs = ((rw (above-grams (c .before .before .before .before .before .before .before .before .loop .inv .2) ((c .before .before .before .before .before .before .before .before .before .before .before .fuel-of .result) * 20 + (c .before .before .before .before .before .before .before .before .loop .q) * 4 + 1) (omega (arith, c .before .before .before .before .before .before .before .before .loop .inv .0, c .before .before .before .before .before .before .before .before .loop .inv .1, c .before .before .before .before .before .before .before .loop-test .taken))) (c .before .before .before .before .before .before .before .before .before .before .before .before .before .pre .1 .0 .grams-most ((c .before .before .before .before .before .before .before .before .before .before .before .fuel-of .result) * 20 + (c .before .before .before .before .before .before .before .before .loop .q) * 4 + 1) (omega (arith, c .before .before .before .before .before .before .before .before .loop .inv .0, c .before .before .before .before .before .before .before .before .loop .inv .1, c .before .before .before .before .before .before .before .loop-test .taken))), rw (c .before .before .before .before .before .before .before .before .loop .inv .3 .above ((c .before .before .before .before .before .before .before .before .before .before .before .fuel-of .result) * 20 + (c .before .before .before .before .before .before .before .before .loop .q) * 4 + 1) (omega (arith, c .before .before .before .before .before .before .before .before .loop .inv .0, c .before .before .before .before .before .before .before .before .loop .inv .1, c .before .before .before .before .before .before .before .loop-test .taken))) (c .before .before .before .before .before .before .before .before .before .before .before .before .before .pre .1 .0 .rest-below ((c .before .before .before .before .before .before .before .before .before .before .before .fuel-of .result) * 20 + (c .before .before .before .before .before .before .before .before .loop .q) * 4 + 1) (omega (arith, c .before .before .before .before .before .before .before .before .loop .inv .0, c .before .before .before .before .before .before .before .before .loop .inv .1, c .before .before .before .before .before .before .before .loop-test .taken)))), (c .before .before .before .before .before .before .before .before .before .before .before .before .before .pre .0 .distance, c .before .before .before .before .before .before .before .before .before .before .before .before .before .pre .0 .share 1 (omega arith), factor-small (c .before .before .before .before .before .before .before .before .before .before .before .before .before .args .rec) _ (c .before .before .before .before .before .before .before .before .before .factors-of .ensures) (c .before .before .before .before .before .before .before .before .loop .q) (c .before .before .before .before .before .before .before .loop-test .taken) (c .before .before .before .before .before .before .before .before .before .before .before .before .before .pre .0) 1 ((c .before .before .before .before .before .before .before .before .loop .q) * 3 + 1) (omega arith) (omega arith)))
 
 add-with-hot-4 : tie.Need-add-with-hot-4 Inv-loop μ-loop
 add-with-hot-4 c = omega (arith, c .before .before .before .before .before .before .before .before .before .loop .inv .0, c .before .before .before .before .before .before .before .before .before .loop .inv .1, c .before .before .before .before .before .before .before .before .loop-test .taken)
@@ -159,7 +162,7 @@ array-read-with-hot-2 c = omega (arith, c .before .before .before .before .befor
 
 with-hot-requires-3 : tie.Need-with-hot-requires-3 Inv-loop μ-loop
 unfolding vehicleKm
-with-hot-requires-3 c κs = (((c .before .before .before .before .before .before .before .before .before .before .before .before .before .before .before .before .pre .1 .0 .grams-most _ (omega (arith, c .before .before .before .before .before .before .before .before .before .before .before .loop .inv .0, c .before .before .before .before .before .before .before .before .before .before .before .loop .inv .1, c .before .before .before .before .before .before .before .before .before .before .loop-test .taken))), (c .before .before .before .before .before .before .before .before .before .before .before .before .before .before .before .before .pre .1 .0 .rest-below _ (omega (arith, c .before .before .before .before .before .before .before .before .before .before .before .loop .inv .0, c .before .before .before .before .before .before .before .before .before .before .before .loop .inv .1, c .before .before .before .before .before .before .before .before .before .before .loop-test .taken)))), (c .before .before .before .before .before .before .before .before .before .before .before .before .before .before .before .before .pre .0 .distance, c .before .before .before .before .before .before .before .before .before .before .before .before .before .before .before .before .pre .0 .share 2 (omega arith), factor-small (c .before .before .before .before .before .before .before .before .before .before .before .before .before .before .before .before .args .rec) _ (c .before .before .before .before .before .before .before .before .before .before .before .before .factors-of .ensures) (c .before .before .before .before .before .before .before .before .before .before .before .loop .q) (c .before .before .before .before .before .before .before .before .before .before .loop-test .taken) (c .before .before .before .before .before .before .before .before .before .before .before .before .before .before .before .before .pre .0) 2 ((c .before .before .before .before .before .before .before .before .before .before .before .loop .q) * 3 + 2) (omega arith) (omega arith)))
+with-hot-requires-3 c κs = ((rw (above-grams (c .before .before .before .before .before .before .before .before .before .before .before .loop .inv .2) ((c .before .before .before .before .before .before .before .before .before .before .before .before .before .before .fuel-of .result) * 20 + (c .before .before .before .before .before .before .before .before .before .before .before .loop .q) * 4 + 2) (omega (arith, c .before .before .before .before .before .before .before .before .before .before .before .loop .inv .0, c .before .before .before .before .before .before .before .before .before .before .before .loop .inv .1, c .before .before .before .before .before .before .before .before .before .before .loop-test .taken))) (c .before .before .before .before .before .before .before .before .before .before .before .before .before .before .before .before .pre .1 .0 .grams-most ((c .before .before .before .before .before .before .before .before .before .before .before .before .before .before .fuel-of .result) * 20 + (c .before .before .before .before .before .before .before .before .before .before .before .loop .q) * 4 + 2) (omega (arith, c .before .before .before .before .before .before .before .before .before .before .before .loop .inv .0, c .before .before .before .before .before .before .before .before .before .before .before .loop .inv .1, c .before .before .before .before .before .before .before .before .before .before .loop-test .taken))), rw (c .before .before .before .before .before .before .before .before .before .before .before .loop .inv .3 .above ((c .before .before .before .before .before .before .before .before .before .before .before .before .before .before .fuel-of .result) * 20 + (c .before .before .before .before .before .before .before .before .before .before .before .loop .q) * 4 + 2) (omega (arith, c .before .before .before .before .before .before .before .before .before .before .before .loop .inv .0, c .before .before .before .before .before .before .before .before .before .before .before .loop .inv .1, c .before .before .before .before .before .before .before .before .before .before .loop-test .taken))) (c .before .before .before .before .before .before .before .before .before .before .before .before .before .before .before .before .pre .1 .0 .rest-below ((c .before .before .before .before .before .before .before .before .before .before .before .before .before .before .fuel-of .result) * 20 + (c .before .before .before .before .before .before .before .before .before .before .before .loop .q) * 4 + 2) (omega (arith, c .before .before .before .before .before .before .before .before .before .before .before .loop .inv .0, c .before .before .before .before .before .before .before .before .before .before .before .loop .inv .1, c .before .before .before .before .before .before .before .before .before .before .loop-test .taken)))), (c .before .before .before .before .before .before .before .before .before .before .before .before .before .before .before .before .pre .0 .distance, c .before .before .before .before .before .before .before .before .before .before .before .before .before .before .before .before .pre .0 .share 2 (omega arith), factor-small (c .before .before .before .before .before .before .before .before .before .before .before .before .before .before .before .before .args .rec) _ (c .before .before .before .before .before .before .before .before .before .before .before .before .factors-of .ensures) (c .before .before .before .before .before .before .before .before .before .before .before .loop .q) (c .before .before .before .before .before .before .before .before .before .before .loop-test .taken) (c .before .before .before .before .before .before .before .before .before .before .before .before .before .before .before .before .pre .0) 2 ((c .before .before .before .before .before .before .before .before .before .before .before .loop .q) * 3 + 2) (omega arith) (omega arith)))
 
 add-with-cold : tie.Need-add-with-cold Inv-loop μ-loop
 add-with-cold c = omega (arith, c .before .before .before .before .before .before .before .before .before .before .before .before .loop .inv .0, c .before .before .before .before .before .before .before .before .before .before .before .before .loop .inv .1, c .before .before .before .before .before .before .before .before .before .before .before .loop-test .taken)
@@ -181,7 +184,7 @@ element-copy-out-with-cold-2 c = omega (arith, c .before .before .before .before
 
 with-cold-requires : tie.Need-with-cold-requires Inv-loop μ-loop
 unfolding vehicleKm
-with-cold-requires c κs = (((c .before .before .before .before .before .before .before .before .before .before .before .before .before .before .before .before .before .before .before .pre .1 .0 .grams-most _ (omega (arith, c .before .before .before .before .before .before .before .before .before .before .before .before .before .before .loop .inv .0, c .before .before .before .before .before .before .before .before .before .before .before .before .before .before .loop .inv .1, c .before .before .before .before .before .before .before .before .before .before .before .before .before .loop-test .taken))), (c .before .before .before .before .before .before .before .before .before .before .before .before .before .before .before .before .before .before .before .pre .1 .0 .rest-below _ (omega (arith, c .before .before .before .before .before .before .before .before .before .before .before .before .before .before .loop .inv .0, c .before .before .before .before .before .before .before .before .before .before .before .before .before .before .loop .inv .1, c .before .before .before .before .before .before .before .before .before .before .before .before .before .loop-test .taken)))), (c .before .before .before .before .before .before .before .before .before .before .before .before .before .before .before .before .before .before .before .pre .0 .distance, rate-small (c .before .before .before .before .before .before .before .before .before .before .before .before .before .before .before .before .before .before .before .args .rec) _ (c .before .before .before .before .before .before .before .before .before .before .before .before .before .before .before .factors-of .ensures) (c .before .before .before .before .before .before .before .before .before .before .before .before .before .before .loop .q) (c .before .before .before .before .before .before .before .before .before .before .before .before .before .loop-test .taken) (c .before .before .before .before .before .before .before .before .before .before .before .before .before .before .before .before .before .before .before .args .t1) (c .before .before .before .before .before .before .before .before .before .before .before .before .before .before .before .before .before .fuel-of .result) (c .before .before .before .before .before .before .before .before .before .before .before .before .before .before .before .before .before .fuel-of .ensures) (c .before .before .before .before .before .before .before .before .before .before .before .before .before .before .before .before .before .before .before .pre .0) (c .before .before .before .before .before .before .before .before .before .before .before .before .before .before .before .before .before .before .before .pre .1 .0) _ (c .before .before .before .before .before .before .before .before .before .before .before .cold-rate .ensures)))
+with-cold-requires c κs = ((rw (above-grams (c .before .before .before .before .before .before .before .before .before .before .before .before .before .before .loop .inv .2) ((c .before .before .before .before .before .before .before .before .before .before .before .before .before .before .before .before .before .fuel-of .result) * 20 + (c .before .before .before .before .before .before .before .before .before .before .before .before .before .before .loop .q) * 4 + 3) (omega (arith, c .before .before .before .before .before .before .before .before .before .before .before .before .before .before .loop .inv .0, c .before .before .before .before .before .before .before .before .before .before .before .before .before .before .loop .inv .1, c .before .before .before .before .before .before .before .before .before .before .before .before .before .loop-test .taken))) (c .before .before .before .before .before .before .before .before .before .before .before .before .before .before .before .before .before .before .before .pre .1 .0 .grams-most ((c .before .before .before .before .before .before .before .before .before .before .before .before .before .before .before .before .before .fuel-of .result) * 20 + (c .before .before .before .before .before .before .before .before .before .before .before .before .before .before .loop .q) * 4 + 3) (omega (arith, c .before .before .before .before .before .before .before .before .before .before .before .before .before .before .loop .inv .0, c .before .before .before .before .before .before .before .before .before .before .before .before .before .before .loop .inv .1, c .before .before .before .before .before .before .before .before .before .before .before .before .before .loop-test .taken))), rw (c .before .before .before .before .before .before .before .before .before .before .before .before .before .before .loop .inv .3 .above ((c .before .before .before .before .before .before .before .before .before .before .before .before .before .before .before .before .before .fuel-of .result) * 20 + (c .before .before .before .before .before .before .before .before .before .before .before .before .before .before .loop .q) * 4 + 3) (omega (arith, c .before .before .before .before .before .before .before .before .before .before .before .before .before .before .loop .inv .0, c .before .before .before .before .before .before .before .before .before .before .before .before .before .before .loop .inv .1, c .before .before .before .before .before .before .before .before .before .before .before .before .before .loop-test .taken))) (c .before .before .before .before .before .before .before .before .before .before .before .before .before .before .before .before .before .before .before .pre .1 .0 .rest-below ((c .before .before .before .before .before .before .before .before .before .before .before .before .before .before .before .before .before .fuel-of .result) * 20 + (c .before .before .before .before .before .before .before .before .before .before .before .before .before .before .loop .q) * 4 + 3) (omega (arith, c .before .before .before .before .before .before .before .before .before .before .before .before .before .before .loop .inv .0, c .before .before .before .before .before .before .before .before .before .before .before .before .before .before .loop .inv .1, c .before .before .before .before .before .before .before .before .before .before .before .before .before .loop-test .taken)))), (c .before .before .before .before .before .before .before .before .before .before .before .before .before .before .before .before .before .before .before .pre .0 .distance, rate-small (c .before .before .before .before .before .before .before .before .before .before .before .before .before .before .before .before .before .before .before .args .rec) _ (c .before .before .before .before .before .before .before .before .before .before .before .before .before .before .before .factors-of .ensures) (c .before .before .before .before .before .before .before .before .before .before .before .before .before .before .loop .q) (c .before .before .before .before .before .before .before .before .before .before .before .before .before .loop-test .taken) (c .before .before .before .before .before .before .before .before .before .before .before .before .before .before .before .before .before .before .before .args .run) (c .before .before .before .before .before .before .before .before .before .before .before .before .before .before .before .before .before .fuel-of .result) (c .before .before .before .before .before .before .before .before .before .before .before .before .before .before .before .before .before .fuel-of .ensures) (c .before .before .before .before .before .before .before .before .before .before .before .before .before .before .before .before .before .before .before .pre .0) (c .before .before .before .before .before .before .before .before .before .before .before .before .before .before .before .before .before .before .before .pre .1 .0) _ (rw (ap (λ xs. getD xs ((c .before .before .before .before .before .before .before .before .before .before .before .before .before .before .before .before .before .fuel-of .result) * 5 + (c .before .before .before .before .before .before .before .before .before .before .before .before .before .before .loop .q)) 0) (c .before .before .before .before .before .before .before .before .before .before .before .before .before .before .loop .inv .5)) at (c .before .before .before .before .before .before .before .before .before .before .before .cold-rate .ensures))))
 
 mul-m : tie.Need-mul-m Inv-loop μ-loop
 mul-m c = omega (arith, c .before .before .before .before .before .before .before .before .before .before .before .before .before .before .before .before .loop .inv .0, c .before .before .before .before .before .before .before .before .before .before .before .before .before .before .before .before .loop .inv .1, c .before .before .before .before .before .before .before .before .before .before .before .before .before .before .before .loop-test .taken)
@@ -258,7 +261,7 @@ loop-less c = omega (arith, c .before .before .before .before .before .before .b
 loop-again : tie.Need-loop-again Inv-loop μ-loop
 loop-again c =
     let i = c .before .before .before .before .before .before .before .before .before .before .before .before .before .before .before .before .before .before .before .loop .inv in
-    let run = c .before .before .before .before .before .before .before .before .before .before .before .before .before .before .before .before .before .before .before .before .before .before .before .before .args .t1 in
+    let run = c .before .before .before .before .before .before .before .before .before .before .before .before .before .before .before .before .before .before .before .before .before .before .before .before .args .run in
     let rec = c .before .before .before .before .before .before .before .before .before .before .before .before .before .before .before .before .before .before .before .before .before .before .before .before .args .rec in
     let fuel = c .before .before .before .before .before .before .before .before .before .before .before .before .before .before .before .before .before .before .before .before .before .before .fuel-of .result in
     let q = c .before .before .before .before .before .before .before .before .before .before .before .before .before .before .before .before .before .before .before .loop .q in
@@ -266,10 +269,10 @@ loop-again c =
     let hf : fuel ≤ 2 = i .1 in
     let ef : fuel ≡ fuelOf (rec .class) = c .before .before .before .before .before .before .before .before .before .before .before .before .before .before .before .before .before .before .before .before .before .before .fuel-of .ensures in
     let b = fuel * 20 + q * 4 in
-    let v0 : c .before .before .before .before .before .before .before .before .before .before .before .before .before .with-hot .result ≡ slotAfter run rec b = hot-made rec _ (c .before .before .before .before .before .before .before .before .before .before .before .before .before .before .before .before .before .before .before .before .factors-of .ensures) q hq run fuel ef 0 (q * 3) b _ (omega arith) (omega arith) (omega arith) (c .before .before .before .before .before .before .before .before .before .before .before .before .before .with-hot .ensures) in
-    let v1 : c .before .before .before .before .before .before .before .before .before .before .with-hot2 .result ≡ slotAfter run rec (b + 1) = hot-made rec _ (c .before .before .before .before .before .before .before .before .before .before .before .before .before .before .before .before .before .before .before .before .factors-of .ensures) q hq run fuel ef 1 (q * 3 + 1) (b + 1) _ (omega arith) (omega arith) (omega arith) (c .before .before .before .before .before .before .before .before .before .before .with-hot2 .ensures) in
-    let v2 : c .before .before .before .before .before .before .before .with-hot3 .result ≡ slotAfter run rec (b + 2) = hot-made rec _ (c .before .before .before .before .before .before .before .before .before .before .before .before .before .before .before .before .before .before .before .before .factors-of .ensures) q hq run fuel ef 2 (q * 3 + 2) (b + 2) _ (omega arith) (omega arith) (omega arith) (c .before .before .before .before .before .before .before .with-hot3 .ensures) in
-    let v3 : c .before .before .before .before .with-cold .result ≡ slotAfter run rec (b + 3) = cold-made rec _ (c .before .before .before .before .before .before .before .before .before .before .before .before .before .before .before .before .before .before .before .before .factors-of .ensures) q hq run fuel ef (b + 3) _ _ (omega arith) (c .before .before .before .before .before .before .before .before .before .before .before .before .before .before .before .before .cold-rate .ensures) (c .before .before .before .before .with-cold .ensures) in (
+    let v0 : c .before .before .before .before .before .before .before .before .before .before .before .before .before .with-hot .result ≡ slotAfter run rec b = hot-made rec _ (c .before .before .before .before .before .before .before .before .before .before .before .before .before .before .before .before .before .before .before .before .factors-of .ensures) q hq run fuel ef 0 (q * 3) b _ (omega arith) (omega arith) (omega arith) (rw (above-grams (i .2) b (omega arith), i .3 .above b (omega arith)) at (c .before .before .before .before .before .before .before .before .before .before .before .before .before .with-hot .ensures)) in
+    let v1 : c .before .before .before .before .before .before .before .before .before .before .with-hot2 .result ≡ slotAfter run rec (b + 1) = hot-made rec _ (c .before .before .before .before .before .before .before .before .before .before .before .before .before .before .before .before .before .before .before .before .factors-of .ensures) q hq run fuel ef 1 (q * 3 + 1) (b + 1) _ (omega arith) (omega arith) (omega arith) (rw (above-grams (i .2) (b + 1) (omega arith), i .3 .above (b + 1) (omega arith)) at (c .before .before .before .before .before .before .before .before .before .before .with-hot2 .ensures)) in
+    let v2 : c .before .before .before .before .before .before .before .with-hot3 .result ≡ slotAfter run rec (b + 2) = hot-made rec _ (c .before .before .before .before .before .before .before .before .before .before .before .before .before .before .before .before .before .before .before .before .factors-of .ensures) q hq run fuel ef 2 (q * 3 + 2) (b + 2) _ (omega arith) (omega arith) (omega arith) (rw (above-grams (i .2) (b + 2) (omega arith), i .3 .above (b + 2) (omega arith)) at (c .before .before .before .before .before .before .before .with-hot3 .ensures)) in
+    let v3 : c .before .before .before .before .with-cold .result ≡ slotAfter run rec (b + 3) = cold-made rec _ (c .before .before .before .before .before .before .before .before .before .before .before .before .before .before .before .before .before .before .before .before .factors-of .ensures) q hq run fuel ef (b + 3) _ _ (omega arith) (rw (ap (λ xs. getD xs ((c .before .before .before .before .before .before .before .before .before .before .before .before .before .before .before .before .before .before .before .before .before .before .fuel-of .result) * 5 + (c .before .before .before .before .before .before .before .before .before .before .before .before .before .before .before .before .before .before .before .loop .q)) 0) (c .before .before .before .before .before .before .before .before .before .before .before .before .before .before .before .before .before .before .before .loop .inv .5)) at (c .before .before .before .before .before .before .before .before .before .before .before .before .before .before .before .before .cold-rate .ensures)) (rw (above-grams (i .2) (b + 3) (omega arith), i .3 .above (b + 3) (omega arith)) at (c .before .before .before .before .with-cold .ensures)) in (
       omega arith,
       hf,
       between-more (b + 3) _ _ (between-more (b + 2) (b + 3) _ (between-more (b + 1) (b + 2) _ (between-more b (b + 1) _ (i .2) (omega arith) (omega arith) (omega arith) (omega arith) (ap (λ s. s .grams) v0)) (omega arith) (omega arith) (omega arith) (omega arith) (ap (λ s. s .grams) v1)) (omega arith) (omega arith) (omega arith) (omega arith) (ap (λ s. s .grams) v2)) (omega arith) (omega arith) (omega arith) (omega arith) (ap (λ s. s .grams) v3),
@@ -288,7 +291,7 @@ element-copy-out-m c = search needs
 
 add-r-4 : tie.Need-add-r-4 Inv-loop μ-loop
 unfolding vehicleKm
-add-r-4 c = let d : (c .before .before .before .before .before .before .before .before .before .args .rec) .vehicles * (c .before .before .before .before .before .before .before .before .before .args .rec) .km ≤ 1000000000 = c .before .before .before .before .before .before .before .before .before .pre .0 .distance in omega (arith, c .before .before .before .before .before .before .before .before .before .pre .1 .0 .km-most (c .before .before .before .before .before .before .before .fuel-of .result) (omega (arith, c .before .before .before .before .loop .inv .1)))
+add-r-4 c = let d : (c .before .before .before .before .before .before .before .before .before .args .rec) .vehicles * (c .before .before .before .before .before .before .before .before .before .args .rec) .km ≤ 1000000000 = c .before .before .before .before .before .before .before .before .before .pre .0 .distance in let e = ap (λ (l : List VehicleKm). getD l (c .before .before .before .before .before .before .before .fuel-of .result) (record { 0 = 0 }) .0) (c .before .before .before .before .loop .inv .7) in omega (arith, e, c .before .before .before .before .before .before .before .before .before .pre .1 .0 .km-most (c .before .before .before .before .before .before .before .fuel-of .result) (omega (arith, c .before .before .before .before .loop .inv .1)))
 
 mul-m-6 : tie.Need-mul-m-6 Inv-loop μ-loop
 mul-m-6 c = search needs
@@ -305,7 +308,7 @@ returns c =
     let i = c .before .before .before .before .loop .inv in
     let q = c .before .before .before .before .loop .q in
     let e : q ≡ 5 = omega (arith, i .0, c .before .before .before .loop-test .left) in
-    made _ _ (c .before .before .before .before .before .before .before .fuel-of .result) (c .before .before .before .before .before .before .before .fuel-of .ensures) (i .1) (c .before .before .before .before .before .before .before .before .before .pre .1 .0) _ (omega arith) _ (i .4) (i .5) (i .6) (i .7) (search (needs, length-of)) (i .2) (i .3)
+    made (c .before .before .before .before .before .before .before .before .before .args .run) (c .before .before .before .before .before .before .before .before .before .args .rec) (c .before .before .before .before .before .before .before .fuel-of .result) (c .before .before .before .before .before .before .before .fuel-of .ensures) (i .1) (c .before .before .before .before .before .before .before .before .before .pre .1 .0) _ (omega arith) _ (i .4) (i .5) (i .6) (i .7) (search (needs, length-of)) (i .2) (i .3)
 
 pub run-with-spec : {M : Type 1} → statement M
 run-with-spec =
