@@ -17,13 +17,14 @@ use Rattle.units.proofs.Tab.{tab-at}
 use Rattle.text.specs.Render.{render}
 use Rattle.text.proofs.Value.{digitsValue, read-back}
 use Rattle.inventory.specs.declared.Run.{Run}
-use Rattle.inventory.specs.Order.{inOrder, sumAt}
+use Rattle.inventory.specs.Order.{inOrder, sumAt, gramsIn, restIn}
 use Rattle.inventory.specs.Printed.{place, printedKind, exactTotal, printedTotal}
 use Rattle.inventory.proofs.Order.{run-limits}
+use Rattle.inventory.proofs.Totals.{half-grams, total-grams}
 use Rattle.listing.specs.declared.Row.{Row}
 use Rattle.listing.specs.declared.Reported.the-variants.{Written, Refused}
 use Rattle.listing.specs.Report.{lineOf, lineAt, linesFrom, reportBytes, reportGrounds, reportedAnswer, reportNumber, reportOf, reportBuffer}
-use Rattle.listing.specs.Table.{figureAt, figures, rowLine, tableLine, tableLines, tableReport}
+use Rattle.listing.specs.Table.{figureAt, figures, rowLine, tableLine, tableLines, tableReport, rowFrom}
 use Rattle.listing.proofs.Stores.{sets-front}
 use Rattle.listing.proofs.Lines.{length-line, length-cond}
 
@@ -62,6 +63,50 @@ kind-given run i h =
 pub total-given : (run : Run) (i : ℕ) → 4 ≤ i % 5 → printedTotal run (i / 25) (i / 5 % 5) ≡ figureAt run i
 unfolding figureAt
 total-given run i h = rw (le-ltb (i % 5) 4 h)
+
+-- the code's rounding of a line's four sums
+pub row-made : (a p b q c r d s : ℕ) → _≡_ {A = Row}
+    (record {
+      urban = a + (p + 500000000) / 1000000000;
+      rural = b + (q + 500000000) / 1000000000;
+      highway = c + (r + 500000000) / 1000000000;
+      cold = d + (s + 500000000) / 1000000000;
+      total = a + b + c + d + (p + q + r + s + 500000000) / 1000000000;
+    })
+    (rowFrom a p b q c r d s)
+unfolding rowFrom
+row-made a p b q c r d s =
+    λ i. record {
+      urban = half-grams a p i;
+      rural = half-grams b q i;
+      highway = half-grams c r i;
+      cold = half-grams d s i;
+      total = total-grams a b c d p q r s i;
+    }
+
+-- the same from the four sums of line k
+pub kind-from : (run : Run) (k kind i j : ℕ) → kind < 4 → i ≡ k * 5 + kind → j ≡ k * 4 + kind
+    → halfUp (gramsIn run j * 1000000000 + restIn run j) 1000000000 ≡ figureAt run i
+unfolding sumAt
+kind-from run k kind i j h ei ej =
+    let m : i % 5 ≡ kind = omega arith in
+    let e : i / 5 * 4 + i % 5 ≡ j = omega arith in
+    let l : i % 5 < 4 = omega arith in
+    rw e at (kind-given run i l)
+
+pub total-from : (run : Run) (k i a b c d : ℕ) → i ≡ k * 5 + 4 → a ≡ k * 4 → b ≡ k * 4 + 1 → c ≡ k * 4 + 2 → d ≡ k * 4 + 3
+    → halfUp (gramsIn run a * 1000000000 + restIn run a + (gramsIn run b * 1000000000 + restIn run b) + (gramsIn run c * 1000000000 + restIn run c) + (gramsIn run d * 1000000000 + restIn run d)) 1000000000
+    ≡ figureAt run i
+unfolding printedTotal exactTotal sumAt
+total-from run k i a b c d ei ea eb ec ed =
+    let l : 4 ≤ i % 5 = omega arith in
+    let u : i / 5 ≡ k = omega arith in
+    let w : i / 25 ≡ i / 5 / 5 = omega arith in
+    let p0 : place (i / 25) (i / 5 % 5) 0 ≡ a = omega arith in
+    let p1 : place (i / 25) (i / 5 % 5) 1 ≡ b = omega arith in
+    let p2 : place (i / 25) (i / 5 % 5) 2 ≡ c = omega arith in
+    let p3 : place (i / 25) (i / 5 % 5) 3 ≡ d = omega arith in
+    rw (p0, p1, p2, p3) at (total-given run i l)
 
 module _ (run : Run) (k : ℕ) (h : k < 15) where
   kind-at : (i kind : ℕ) → kind < 4 → i ≡ 5 * k + kind → getD (figures run) i 0 ≡ printedKind run (k / 5) (k % 5) kind

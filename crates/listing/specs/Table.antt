@@ -1,11 +1,12 @@
 -- The printed figures of a run as one table of 75, and the lines of the report read from it: what the inner functions of the report state.
 -- Assumes nothing.
-use Prim.Native.Nat.{ℕ, zero, suc, _+_, _*_, _/_, _%_}
+use Prim.Native.Nat.{ℕ, zero, suc, _+_, _*_, _/_, _%_, _≤_, _<_}
 use mathlib.Core.Bool.{cond}
 use mathlib.Core.List.{List, [], _∷_, _++_}
 use lib.Dec.{eqb, ltb}
 use lib.ListN.{getD}
 use Rattle.units.specs.Lists.{tab}
+use Rattle.units.specs.Rounding.{halfUp}
 use Rattle.text.specs.Render.{render}
 use Rattle.inventory.specs.declared.Run.{Run}
 use Rattle.inventory.specs.Printed.{printedKind, printedTotal}
@@ -53,3 +54,19 @@ tableLines t (suc n) k = tableLine t k ++ tableLines t n (k + 1)
 
 unfoldable pub tableReport : List ℕ → List ℕ
 tableReport t = tableLines t 15 0
+
+-- a sum of a run in order: whole grams and a rest
+pub record SumBounds (g r : ℕ) : Type 0 where
+  pub grams : g ≤ 5000000000000000
+  pub rest : r < 1000000000
+
+-- the numbers of a line from the grams and rests of its four sums
+unfoldable pub rowFrom : ℕ → ℕ → ℕ → ℕ → ℕ → ℕ → ℕ → ℕ → Row
+rowFrom a p b q c r d s =
+    record {
+      urban = halfUp (a * 1000000000 + p) 1000000000;
+      rural = halfUp (b * 1000000000 + q) 1000000000;
+      highway = halfUp (c * 1000000000 + r) 1000000000;
+      cold = halfUp (d * 1000000000 + s) 1000000000;
+      total = halfUp (a * 1000000000 + p + (b * 1000000000 + q) + (c * 1000000000 + r) + (d * 1000000000 + s)) 1000000000;
+    }

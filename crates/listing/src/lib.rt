@@ -5,9 +5,10 @@ ghost use lib.ListN.{length};
 ghost use lib.Seq.{sets};
 ghost use Rattle.text.specs.Render.{render};
 ghost use Rattle.listing.specs.Report.{nameOf, reportedAnswer, reportOf, reportBuffer};
-ghost use Rattle.listing.specs.Table.{figures, rowLine, rowAt, tableLine, tableReport};
+ghost use Rattle.listing.specs.Table.{figures, rowLine, rowAt, tableLine, tableReport, rowFrom, SumBounds};
 ghost use Rattle.inventory.specs.Limits.{RunLimits};
 use inventory::Run;
+use units::Grams;
 use units::Refusal;
 
 // What writing a report gives: its length in bytes, or the refusal.
@@ -151,22 +152,45 @@ fn lines_at(b: &mut [u8], t: &[u64; 75])
     }
 }
 
+// The numbers of a line from the grams and rests of its four sums.
+fn row_from(a: Grams, p: u64, b: Grams, q: u64, c: Grams, r: u64, d: Grams, s: u64) -> Row
+    requires { ⌜ SumBounds (a .0) p × SumBounds (b .0) q × SumBounds (c .0) r × SumBounds (d .0) s ⌝ }
+    ensures { λ row. ⌜ row ≡ rowFrom (a .0) p (b .0) q (c .0) r (d .0) s ⌝ }
+{
+    Row {
+        urban: a.0 + (p + 500000000) / 1000000000,
+        rural: b.0 + (q + 500000000) / 1000000000,
+        highway: c.0 + (r + 500000000) / 1000000000,
+        cold: d.0 + (s + 500000000) / 1000000000,
+        total: a.0 + b.0 + c.0 + d.0 + (p + q + r + s + 500000000) / 1000000000,
+    }
+}
+
 // The printed figures of a run in order, so that the lines need not take the whole run.
 fn figures_of(run: Run) -> [u64; 75]
     requires { ⌜ RunLimits run ⌝ }
     ensures { λ t. ⌜ t ≡ figures run ⌝ }
 {
     let mut t = [0; 75];
-    let mut i: usize = 0;
-    while i < 75 {
-        if i % 5 < 4 {
-            let g = inventory::kind_at(run, i / 5 * 4 + i % 5);
-            t[i] = g.0;
-        } else {
-            let g = inventory::total_at(run, i / 25, i / 5 % 5);
-            t[i] = g.0;
-        }
-        i += 1;
+    let mut k: usize = 0;
+    while k < 15 {
+        let j = k * 4;
+        let row = row_from(
+            run.grams[j],
+            run.rests[j],
+            run.grams[j + 1],
+            run.rests[j + 1],
+            run.grams[j + 2],
+            run.rests[j + 2],
+            run.grams[j + 3],
+            run.rests[j + 3],
+        );
+        t[k * 5] = row.urban;
+        t[k * 5 + 1] = row.rural;
+        t[k * 5 + 2] = row.highway;
+        t[k * 5 + 3] = row.cold;
+        t[k * 5 + 4] = row.total;
+        k += 1;
     }
     t
 }
