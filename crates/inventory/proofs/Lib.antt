@@ -1,4 +1,5 @@
 pub mod Order
+pub mod Together
 pub mod Records
 pub mod Adding
 pub mod Totals

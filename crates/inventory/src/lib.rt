@@ -76,14 +76,14 @@ pub enum Kind {
 
 // What opening gives: the fresh run, or the refusal and the run of zeros.
 pub struct Opened {
-    pub verdict: Verdict,
     pub run: Run,
+    pub verdict: Verdict,
 }
 
 // What adding gives: the run with the record in it, or the refusal and the run as it came.
 pub struct Added {
-    pub verdict: Verdict,
     pub run: Run,
+    pub verdict: Verdict,
 }
 
 // The answer to a question for grams.
@@ -111,7 +111,8 @@ fn sum_ok(limit: Grams, g: Grams, r: u64) -> bool
     true
 }
 
-fn sums_ok(run: Run) -> bool
+// Whether the sums are in order, sum by sum.
+fn each_sum_ok(run: Run) -> bool
     requires { ⌜ run .count ≤ 5000 ⌝ }
     ensures { λ b. ⌜ b ≡ allBelow (sumOk run) 60 ⌝ }
 {
@@ -124,6 +125,36 @@ fn sums_ok(run: Run) -> bool
         k += 1;
     }
     true
+}
+
+// 0 only for a rest below its limit, without a branch: rest / 2 + 36,870,912 reaches 2^29 where rest is 10^9.
+fn rest_over(rest: u64) -> u64
+    ensures { λ r. ⌜ (r ≤ 34359738368) × (r ≡ 0 → rest < 1000000000) ⌝ }
+{
+    (rest / 2 + 36870912) / 536870912
+}
+
+// The same: where no rest is over and all grams together are below the limit of one sum, no sum is looked at by itself.
+// Both are added up without a branch, which the compiler does two sums at a time, where the run lies.
+fn sums_ok(run: Run) -> bool
+    requires { ⌜ run .count ≤ 5000 ⌝ }
+    ensures { λ b. ⌜ b ≡ allBelow (sumOk run) 60 ⌝ }
+{
+    let mut all: u64 = 0;
+    let mut over: u64 = 0;
+    let mut k: usize = 0;
+    while k < 60 {
+        let g = run.grams[k];
+        all = all + g.0 / 64;
+        over = over + rest_over(run.rests[k]);
+        k += 1;
+    }
+    if over == 0 {
+        if all < 15625000000 * run.count {
+            return true;
+        }
+    }
+    each_sum_ok(run)
 }
 
 fn xs_ok(run: Run) -> bool

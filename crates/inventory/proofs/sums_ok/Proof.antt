@@ -1,46 +1,42 @@
 -- `inventory::sums_ok` meets its contract. Assumes nothing.
 use mathlib.Core.Path.{_≡_, refl, sym, _∙_}
-use mathlib.Core.Bool.{true}
-use Prim.Native.Nat.{_≤_, _-_}
+use Prim.Native.Nat.{_+_, _*_, _≤_, _-_}
 use native.Mathlib.Omega.{arith}
 use borrow.Author.Needs.{needs}
-use borrow.Author.Tests.{not-true, not-false}
-use Rattle.units.specs.Lists.{allBelow}
-use Rattle.inventory.specs.Order.{sumOk}
-use Rattle.units.proofs.Tests.{more, fails, done}
+use Rattle.inventory.proofs.Together.{Seen, seen-none, seen-more, together}
 use Rattle.inventory.proofs.sums_ok.Statement.{statement}
 use Rattle.inventory.proofs.sums_ok.Tie as tie
 
+-- each turn adds less than 2^58 and less than 2^35
 abbrev Inv-loop : tie.InvT-loop
-Inv-loop run limit k₀ k = (k ≤ 60) × (allBelow (sumOk run) k ≡ true)
+Inv-loop run all₀ over₀ k₀ all over k = (k ≤ 60) × (all ≤ 288230376151711744 * k) × (over ≤ 34359738368 * k) × Seen run k all over
 
 abbrev μ-loop : tie.MeasureT-loop
-μ-loop run limit k₀ k = 60 - k
-
-mul-t6 : tie.Need-mul-t6 Inv-loop μ-loop
-mul-t6 c = search needs
+μ-loop run all₀ over₀ k₀ all over k = 60 - k
 
 loop-holds : tie.Need-loop-holds Inv-loop μ-loop
-unfolding allBelow
-loop-holds c = (search needs, refl)
+loop-holds c = (search needs, omega arith, omega arith, seen-none (c .args .t1) _ _)
 
-mul-sum-ok : tie.Need-mul-sum-ok Inv-loop μ-loop
-mul-sum-ok c = search needs
+mul-g : tie.Need-mul-g Inv-loop μ-loop
+mul-g c = search needs
 
-element-copy-out-sum-ok : tie.Need-element-copy-out-sum-ok Inv-loop μ-loop
-element-copy-out-sum-ok c = search needs
+element-copy-out-g : tie.Need-element-copy-out-g Inv-loop μ-loop
+element-copy-out-g c = search needs
 
-mul-sum-ok-2 : tie.Need-mul-sum-ok-2 Inv-loop μ-loop
-mul-sum-ok-2 c = search needs
+add-all : tie.Need-add-all Inv-loop μ-loop
+add-all c = search needs
 
-element-copy-out-sum-ok-2 : tie.Need-element-copy-out-sum-ok-2 Inv-loop μ-loop
-element-copy-out-sum-ok-2 c = search needs
+mul-rest-over : tie.Need-mul-rest-over Inv-loop μ-loop
+mul-rest-over c = search needs
 
-sum-ok-requires : tie.Need-sum-ok-requires Inv-loop μ-loop
-sum-ok-requires c κs = search needs
+element-copy-out-rest-over : tie.Need-element-copy-out-rest-over Inv-loop μ-loop
+element-copy-out-rest-over c = search needs
 
-returns : tie.Need-returns Inv-loop μ-loop
-returns c = sym (fails _ 60 _ (omega arith) (sym (c .before .sum-ok .ensures) ∙ not-true _ (c .if1 .taken)))
+rest-over-requires : tie.Need-rest-over-requires Inv-loop μ-loop
+rest-over-requires c κs = search needs
+
+add-over : tie.Need-add-over Inv-loop μ-loop
+add-over c = omega arith
 
 add-k : tie.Need-add-k Inv-loop μ-loop
 add-k c = search needs
@@ -49,10 +45,19 @@ loop-less : tie.Need-loop-less Inv-loop μ-loop
 loop-less c = search needs
 
 loop-again : tie.Need-loop-again Inv-loop μ-loop
-loop-again c = (search needs, more _ _ (c .before .before .before .before .before .loop .inv .1) (sym (c .before .sum-ok .ensures) ∙ not-false _ (c .if1 .left)))
+loop-again c = (omega arith, omega arith, omega arith, seen-more (c .before .before .before .before .before .before .args .t1) _ _ _ _ (c .before .before .before .before .before .loop .inv .3) (c .rest-over .ensures .1))
+
+mul-if2 : tie.Need-mul-if2 Inv-loop μ-loop
+mul-if2 c = search needs
+
+returns : tie.Need-returns Inv-loop μ-loop
+returns c = together (c .before .before .before .before .args .t1) _ _ _ (c .before .before .before .loop .inv .3) (omega arith) (omega arith) (omega arith)
+
+each-sum-ok-requires : tie.Need-each-sum-ok-requires Inv-loop μ-loop
+each-sum-ok-requires c κs = search needs
 
 returns-2 : tie.Need-returns-2 Inv-loop μ-loop
-returns-2 c = done _ 60 _ (c .before .loop .inv .1) (omega arith) (omega arith)
+returns-2 c = search needs
 
 pub sums-ok-spec : {M : Type 1} → statement M
 sums-ok-spec =
@@ -60,15 +65,18 @@ sums-ok-spec =
     (tie.spec
     Inv-loop
     μ-loop
-    mul-t6
     loop-holds
-    mul-sum-ok
-    element-copy-out-sum-ok
-    mul-sum-ok-2
-    element-copy-out-sum-ok-2
-    sum-ok-requires
-    returns
+    mul-g
+    element-copy-out-g
+    add-all
+    mul-rest-over
+    element-copy-out-rest-over
+    rest-over-requires
+    add-over
     add-k
     loop-less
     loop-again
+    mul-if2
+    returns
+    each-sum-ok-requires
     returns-2)
