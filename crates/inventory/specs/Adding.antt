@@ -79,9 +79,13 @@ runWith run rec =
       rests = tab (restAfter run rec) 60;
     }
 
--- the grounds of adding, in their order: 16, then 3 to 8, then 9
+-- the grounds of adding to a run in order with so many records: 3 to 8, then 9
+abbrev pub orderedGrounds : ℕ → Record → List Ground
+orderedGrounds count rec = recordGrounds rec ++ (ground 9 (leb recordLimit count) ∷ [])
+
+-- the grounds of adding, in their order: 16, then 3 to 9
 unfoldable pub addGrounds : Run → Record → List Ground
-addGrounds run rec = ground 16 (not (inOrder run)) ∷ recordGrounds rec ++ (ground 9 (leb recordLimit (run .count)) ∷ [])
+addGrounds run rec = ground 16 (not (inOrder run)) ∷ orderedGrounds (run .count) rec
 
 -- the number of an add: 0 where the record is taken
 unfoldable pub addNumber : Run → Record → ℕ

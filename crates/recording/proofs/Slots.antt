@@ -60,3 +60,9 @@ module _ (rec : Record) (f : List ℕ) (given : Factors rec f) (q : ℕ) (hq : q
 pub above-grams : {f : ℕ → Grams} {l₀ : List Grams} {n lo hi : ℕ} {l : List Grams} → Between (record { 0 = 0 }) f l₀ n lo hi l → (j : ℕ) → hi ≤ j
     → getD l j (record { 0 = 0 }) .0 ≡ getD l₀ j (record { 0 = 0 }) .0
 above-grams b j h = ap (λ g. g .0) (b .above j h)
+
+-- and so is within the bounds of a run in order
+pub slot-small : {run : Run} {f : ℕ → Grams} {h : ℕ → ℕ} {lo hi : ℕ} {l : List Grams} {m : List ℕ} → RunLimits run
+    → Between (record { 0 = 0 }) f (run .grams) 60 lo hi l → Between 0 h (run .rests) 60 lo hi m → (j : ℕ) → hi ≤ j → j < 60
+    → (getD l j (record { 0 = 0 }) .0 ≤ 5000000000000000) × (getD m j 0 < 1000000000)
+slot-small lim p s j a b = (rw (above-grams p j a) (lim .grams-most j b), rw (s .above j a) (lim .rest-below j b))

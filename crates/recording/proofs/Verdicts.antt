@@ -22,7 +22,7 @@ use Rattle.inventory.specs.declared.Run.{Run}
 use Rattle.inventory.specs.Records.{monthOk, temperaturesWrong, headGrounds, vehicleKm, sharesWrong, speedsWrong, recordGrounds}
 use Rattle.inventory.specs.Order.{inOrder}
 use Rattle.inventory.specs.Opening.{emptyRun, freshRun, zeroRun, openNumber, openRun}
-use Rattle.inventory.specs.Adding.{runWith, addGrounds, addNumber, addRun}
+use Rattle.inventory.specs.Adding.{runWith, orderedGrounds, addGrounds, addNumber, addRun}
 
 -- ---- a head
 
@@ -129,26 +129,30 @@ module _ (rec : Record) where
 
 -- ---- an add
 
-module _ (run : Run) (rec : Record) where
+module _ (count : ℕ) (rec : Record) where
   -- on a run in order the record's own grounds come first, then 9
-  in-turn : inOrder run ≡ true
-      → addNumber run rec ≡ cond (eqb (firstFit (recordGrounds rec)) 0) (cond (leb 5000 (run .count)) 9 0) (firstFit (recordGrounds rec))
-  unfolding addNumber addGrounds firstFit recordGrounds
-  in-turn o = rw o (fit-append (recordGrounds rec) (ground 9 (leb 5000 (run .count)) ∷ []) tt)
+  in-turn : firstFit (orderedGrounds count rec) ≡ cond (eqb (firstFit (recordGrounds rec)) 0) (cond (leb 5000 count) 9 0) (firstFit (recordGrounds rec))
+  unfolding firstFit recordGrounds
+  in-turn = fit-append (recordGrounds rec) (ground 9 (leb 5000 count) ∷ []) tt
 
+  pub add-refused : (v : Verdict) (r : Refusal) → v ≡ Refused r → verdictNumber v ≡ firstFit (recordGrounds rec)
+      → refusalNumber r ≡ firstFit (orderedGrounds count rec)
+  add-refused v r e h = rw (in-turn, refused-number v r _ e h, number-positive r)
+
+  pub add-full : (v : Verdict) → v ≡ Taken → verdictNumber v ≡ firstFit (recordGrounds rec) → 5000 ≤ count → 9 ≡ firstFit (orderedGrounds count rec)
+  add-full v e h n = rw (in-turn, taken-number v _ e h, le-leb 5000 count n)
+
+  pub add-good : (v : Verdict) → v ≡ Taken → verdictNumber v ≡ firstFit (recordGrounds rec) → count < 5000 → 0 ≡ firstFit (orderedGrounds count rec)
+  add-good v e h n = rw (in-turn, taken-number v _ e h, lt-leb 5000 count n)
+
+module _ (run : Run) (rec : Record) where
   pub add-unordered : inOrder run ≡ false → 16 ≡ addNumber run rec
   unfolding addNumber addGrounds firstFit
   add-unordered o = rw o
 
-  pub add-refused : (v : Verdict) (r : Refusal) → inOrder run ≡ true → v ≡ Refused r → verdictNumber v ≡ firstFit (recordGrounds rec)
-      → refusalNumber r ≡ addNumber run rec
-  add-refused v r o e h = rw (in-turn o, refused-number v r _ e h, number-positive r)
-
-  pub add-full : (v : Verdict) → inOrder run ≡ true → v ≡ Taken → verdictNumber v ≡ firstFit (recordGrounds rec) → 5000 ≤ run .count → 9 ≡ addNumber run rec
-  add-full v o e h n = rw (in-turn o, taken-number v _ e h, le-leb 5000 (run .count) n)
-
-  pub add-good : (v : Verdict) → inOrder run ≡ true → v ≡ Taken → verdictNumber v ≡ firstFit (recordGrounds rec) → run .count < 5000 → 0 ≡ addNumber run rec
-  add-good v o e h n = rw (in-turn o, taken-number v _ e h, lt-leb 5000 (run .count) n)
+  pub add-ordered : inOrder run ≡ true → firstFit (orderedGrounds (run .count) rec) ≡ addNumber run rec
+  unfolding addNumber addGrounds firstFit
+  add-ordered o = rw o
 
   -- what an add has that is taken
   pub record Ready : Type 0 where
@@ -168,7 +172,7 @@ module _ (run : Run) (rec : Record) where
   pub ready : addNumber run rec ≡ 0 → Ready
   ready z =
       let o = order-by (inOrder run) refl z in
-      let p = ready-by (eqb (firstFit (recordGrounds rec)) 0) (leb 5000 (run .count)) (firstFit (recordGrounds rec)) refl (sym (in-turn o) ∙ z) in
+      let p = ready-by (eqb (firstFit (recordGrounds rec)) 0) (leb 5000 (run .count)) (firstFit (recordGrounds rec)) refl (sym (in-turn (run .count) rec) ∙ add-ordered o ∙ z) in
       record { order = o; own = p .0; room = leb-false 5000 (run .count) (p .1) }
 
   pub run-kept : (n : ℕ) → n ≡ addNumber run rec → eqb n 0 ≡ false → run ≡ addRun run rec

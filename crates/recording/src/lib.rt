@@ -2,7 +2,8 @@
 ghost use mathlib.Core.Path.{_≡_};
 ghost use mathlib.Core.Bool.{cond, true};
 ghost use Prim.Native.Nat.{_+_, _*_, _≤_, _<_};
-ghost use Rattle.units.specs.Lists.{allBelow};
+ghost use lib.ListN.{length};
+ghost use Rattle.units.specs.Lists.{allBelow, tab};
 ghost use Rattle.units.specs.Grounds.{firstFit};
 ghost use Rattle.units.specs.Refusals.{verdictNumber};
 ghost use Rattle.factors.specs.Factors.{hasCold};
@@ -11,7 +12,8 @@ ghost use Rattle.inventory.specs.Records.{monthOk, recordGrounds, sharesWrong, 
 ghost use Rattle.inventory.specs.Order.{inOrder};
 ghost use Rattle.inventory.specs.Limits.{RecordLimits, RunLimits};
 ghost use Rattle.inventory.specs.Opening.{zeroRun, openNumber, openRun};
-ghost use Rattle.inventory.specs.Adding.{billionths, runWith, addNumber, addRun};
+ghost use Rattle.inventory.specs.Adding.{billionths, gramsAfter, restAfter, kmAfter, runWith, orderedGrounds, addNumber, addRun};
+ghost use Rattle.recording.specs.Parts.{ofSums, ofKm};
 ghost use Rattle.accuracy.specs.Claim.{EveryList};
 use inventory::Added;
 use inventory::Amount;
@@ -62,14 +64,14 @@ pub fn open_run(head: Head) -> Opened
     let mut run = zeros();
     if units::is_outside(10, 200, head.trip) {
         return Opened {
-            verdict: Verdict::Refused(Refusal::TripLength),
             run,
+            verdict: Verdict::Refused(Refusal::TripLength),
         };
     }
     if !temperatures_ok(head) {
         return Opened {
-            verdict: Verdict::Refused(Refusal::Temperature),
             run,
+            verdict: Verdict::Refused(Refusal::Temperature),
         };
     }
     let temps = head.temps;
@@ -77,8 +79,8 @@ pub fn open_run(head: Head) -> Opened
     let x = coldstart::cold_values(head.trip, &temps);
     run.x = x;
     Opened {
-        verdict: Verdict::Taken,
         run,
+        verdict: Verdict::Taken,
     }
 }
 
@@ -139,10 +141,9 @@ fn record_verdict(rec: Record) -> Verdict
     Verdict::Taken
 }
 
-// Whether an add to a run in order is refused: 3 to 8, then 9.
-fn add_verdict(run: Run, rec: Record) -> Verdict
-    requires { ⌜ inOrder run ≡ true ⌝ }
-    ensures { λ v. ⌜ verdictNumber v ≡ addNumber run rec ⌝ }
+// Whether an add to a run in order with so many records is refused: 3 to 8, then 9.
+pub fn add_verdict(count: u64, rec: Record) -> Verdict
+    ensures { λ v. ⌜ verdictNumber v ≡ firstFit (orderedGrounds count rec) ⌝ }
 {
     let v = record_verdict(rec);
     match v {
@@ -151,7 +152,7 @@ fn add_verdict(run: Run, rec: Record) -> Verdict
         }
         Verdict::Taken => {}
     }
-    if 5000 <= run.count {
+    if 5000 <= count {
         return Verdict::Refused(Refusal::FullRun);
     }
     Verdict::Taken
@@ -211,13 +212,21 @@ fn cold_rate(class: u64, e: u64, x: u64) -> u64
     0
 }
 
-// The run with a record that is taken: the 20 sums and the kilometres of its fuel, and the count.
-fn run_with(run: Run, rec: Record) -> Run
+// The grams with a record that is taken; its rests go to where they lie. Only the 20 sums of its fuel change.
+// Numbers and lent arrays, not the run: the run by value would be copied twice for each record of a sheet.
+pub fn sums_with(
+    grams: [Grams; 60],
+    rests: &mut [u64; 60],
+    x: &[u64; 15],
+    rec: Record,
+) -> [Grams; 60]
     requires { ⌜ RecordLimits rec ⌝ }
-    requires { ⌜ RunLimits run × (run .count < 5000) ⌝ }
-    ensures { λ r. ⌜ r ≡ runWith run rec ⌝ }
+    requires { ⌜ RunLimits (ofSums (now x) grams (now rests)) ⌝ }
+    requires { ⌜ length (now rests) ≡ 60 ⌝ }
+    ensures grams { λ r. ⌜ r ≡ tab (gramsAfter (ofSums (now (x .entry)) grams (now (rests .entry))) rec) 60 ⌝ }
+    ensures rests { λ r. ⌜ now (rests .exit) ≡ tab (restAfter (ofSums (now (x .entry)) grams (now (rests .entry))) rec) 60 ⌝ }
 {
-    let mut r = run;
+    let mut r = grams;
     let shares = rec.shares;
     let fuel = factors::fuel_of(rec.class);
     let k = VehicleKm(rec.vehicles * rec.km);
@@ -231,64 +240,61 @@ fn run_with(run: Run, rec: Record) -> Run
     while q < 5 {
         let b = fuel * 20 + q * 4;
         let e = f[q * 3];
-        let c = cold_rate(rec.class, e, r.x[fuel * 5 + q]);
-        let s0 = with_hot(r.grams[b], r.rests[b], k, shares.urban, e);
-        let s1 = with_hot(
-            r.grams[b + 1],
-            r.rests[b + 1],
-            k,
-            shares.rural,
-            f[q * 3 + 1],
-        );
-        let s2 = with_hot(
-            r.grams[b + 2],
-            r.rests[b + 2],
-            k,
-            shares.highway,
-            f[q * 3 + 2],
-        );
-        let s3 = with_cold(r.grams[b + 3], r.rests[b + 3], k, c);
+        let c = cold_rate(rec.class, e, x[fuel * 5 + q]);
+        let s0 = with_hot(r[b], rests[b], k, shares.urban, e);
+        let s1 = with_hot(r[b + 1], rests[b + 1], k, shares.rural, f[q * 3 + 1]);
+        let s2 = with_hot(r[b + 2], rests[b + 2], k, shares.highway, f[q * 3 + 2]);
+        let s3 = with_cold(r[b + 3], rests[b + 3], k, c);
         let m = s0.grams;
-        r.grams[b] = m;
-        r.rests[b] = s0.rest;
+        r[b] = m;
+        rests[b] = s0.rest;
         let m = s1.grams;
-        r.grams[b + 1] = m;
-        r.rests[b + 1] = s1.rest;
+        r[b + 1] = m;
+        rests[b + 1] = s1.rest;
         let m = s2.grams;
-        r.grams[b + 2] = m;
-        r.rests[b + 2] = s2.rest;
+        r[b + 2] = m;
+        rests[b + 2] = s2.rest;
         let m = s3.grams;
-        r.grams[b + 3] = m;
-        r.rests[b + 3] = s3.rest;
+        r[b + 3] = m;
+        rests[b + 3] = s3.rest;
         q += 1;
     }
-    let m = r.km[fuel];
-    let m = VehicleKm(m.0 + k.0);
-    r.km[fuel] = m;
-    r.count += 1;
     r
 }
 
-// Adds a record to a run that is known to be in order; a refused record gives back the run as it came.
-pub fn add_ordered(run: Run, rec: Record) -> Added
-    requires { ⌜ inOrder run ≡ true ⌝ }
-    ensures number { λ r. ⌜ verdictNumber (r .verdict) ≡ addNumber run rec ⌝ }
-    ensures run { λ r. ⌜ r .run ≡ addRun run rec ⌝ }
+// The kilometres with a record that is taken.
+pub fn kms_with(km: [VehicleKm; 3], rec: Record) -> [VehicleKm; 3]
+    requires { ⌜ RecordLimits rec ⌝ }
+    requires { ⌜ RunLimits (ofKm km) ⌝ }
+    ensures { λ r. ⌜ r ≡ tab (kmAfter (ofKm km) rec) 3 ⌝ }
 {
-    let v = add_verdict(run, rec);
-    match v {
-        Verdict::Refused(x) => {
-            return Added {
-                verdict: Verdict::Refused(x),
-                run,
-            };
-        }
-        Verdict::Taken => {}
-    }
-    let r = run_with(run, rec);
-    Added {
-        verdict: Verdict::Taken,
-        run: r,
+    let mut r = km;
+    let fuel = factors::fuel_of(rec.class);
+    let m = r[fuel];
+    let m = VehicleKm(m.0 + rec.vehicles * rec.km);
+    r[fuel] = m;
+    r
+}
+
+// The run with a record that is taken.
+fn run_with(run: Run, rec: Record) -> Run
+    requires { ⌜ RecordLimits rec ⌝ }
+    requires { ⌜ RunLimits run × (run .count < 5000) ⌝ }
+    ensures { λ r. ⌜ r ≡ runWith run rec ⌝ }
+{
+    let x = run.x;
+    let mut rests = run.rests;
+    let old = run.grams;
+    let grams = sums_with(old, &mut rests, &x, rec);
+    let old = run.km;
+    let km = kms_with(old, rec);
+    Run {
+        trip: run.trip,
+        x,
+        count: run.count + 1,
+        km,
+        grams,
+        rests,
     }
 }
 
@@ -299,9 +305,23 @@ pub fn add(run: Run, rec: Record) -> Added
 {
     if !inventory::in_order(run) {
         return Added {
-            verdict: Verdict::Refused(Refusal::RunOrder),
             run,
+            verdict: Verdict::Refused(Refusal::RunOrder),
         };
     }
-    add_ordered(run, rec)
+    let v = add_verdict(run.count, rec);
+    match v {
+        Verdict::Refused(x) => {
+            return Added {
+                run,
+                verdict: Verdict::Refused(x),
+            };
+        }
+        Verdict::Taken => {}
+    }
+    let r = run_with(run, rec);
+    Added {
+        run: r,
+        verdict: Verdict::Taken,
+    }
 }

@@ -13,18 +13,18 @@ enum-known-v c = search needs
 
 returns : tie.Need-returns
 unfolding verdictNumber
-returns c = add-refused _ _ _ _ (c .before .before .before .before .pre) (c .before .v .given .1) (c .before .before .before .record-verdict .ensures)
+returns c = add-refused (c .before .before .before .before .args .count) (c .before .before .before .before .args .rec) _ _ (c .before .v .given .1) (c .before .before .before .record-verdict .ensures)
 
 enum-told : tie.Need-enum-told
 enum-told c = search needs
 
 returns-2 : tie.Need-returns-2
 unfolding verdictNumber refusalNumber
-returns-2 c = add-full _ _ _ (c .before .before .before .before .before .pre) (c .before .before .enum-told .given .1) (c .before .before .before .before .record-verdict .ensures) (c .if1 .taken)
+returns-2 c = add-full _ _ _ (c .before .enum-told .given .1) (c .before .before .before .record-verdict .ensures) (c .if1 .taken)
 
 returns-3 : tie.Need-returns-3
 unfolding verdictNumber refusalNumber
-returns-3 c = add-good _ _ _ (c .before .before .before .before .before .pre) (c .before .before .enum-told .given .1) (c .before .before .before .before .record-verdict .ensures) (c .if1 .left)
+returns-3 c = add-good _ _ _ (c .before .enum-told .given .1) (c .before .before .before .record-verdict .ensures) (c .if1 .left)
 
 pub add-verdict-spec : {M : Type 1} → statement M
 add-verdict-spec =
