@@ -212,19 +212,19 @@ fn cold_rate(class: u64, e: u64, x: u64) -> u64
     0
 }
 
-// The grams with a record that is taken; its rests go to where they lie. Only the 20 sums of its fuel change.
-// Numbers and lent arrays, not the run: the run by value would be copied twice for each record of a sheet.
-pub fn sums_with(
-    grams: [Grams; 60],
-    rests: &mut [u64; 60],
-    x: &[u64; 15],
-    rec: Record,
-) -> [Grams; 60]
+// The whole grams of the 60 sums, in a struct so that a loop can take them from a call without a copy of its own.
+pub struct WholeGrams {
+    pub sums: [Grams; 60],
+}
+
+// The whole grams with a record that is taken; its rests go to where they lie. Only the 20 sums of its fuel change.
+// Not the run by value, which would be copied twice for each record of a sheet.
+pub fn sums_with(grams: WholeGrams, rests: &mut [u64; 60], x: &[u64; 15], rec: Record) -> WholeGrams
     requires { ⌜ RecordLimits rec ⌝ }
-    requires { ⌜ RunLimits (ofSums (now x) grams (now rests)) ⌝ }
+    requires { ⌜ RunLimits (ofSums (now x) (grams .sums) (now rests)) ⌝ }
     requires { ⌜ length (now rests) ≡ 60 ⌝ }
-    ensures grams { λ r. ⌜ r ≡ tab (gramsAfter (ofSums (now (x .entry)) grams (now (rests .entry))) rec) 60 ⌝ }
-    ensures rests { λ r. ⌜ now (rests .exit) ≡ tab (restAfter (ofSums (now (x .entry)) grams (now (rests .entry))) rec) 60 ⌝ }
+    ensures grams { λ r. ⌜ r .sums ≡ tab (gramsAfter (ofSums (now (x .entry)) (grams .sums) (now (rests .entry))) rec) 60 ⌝ }
+    ensures rests { λ r. ⌜ now (rests .exit) ≡ tab (restAfter (ofSums (now (x .entry)) (grams .sums) (now (rests .entry))) rec) 60 ⌝ }
 {
     let mut r = grams;
     let shares = rec.shares;
@@ -241,21 +241,21 @@ pub fn sums_with(
         let b = fuel * 20 + q * 4;
         let e = f[q * 3];
         let c = cold_rate(rec.class, e, x[fuel * 5 + q]);
-        let s0 = with_hot(r[b], rests[b], k, shares.urban, e);
-        let s1 = with_hot(r[b + 1], rests[b + 1], k, shares.rural, f[q * 3 + 1]);
-        let s2 = with_hot(r[b + 2], rests[b + 2], k, shares.highway, f[q * 3 + 2]);
-        let s3 = with_cold(r[b + 3], rests[b + 3], k, c);
+        let s0 = with_hot(r.sums[b], rests[b], k, shares.urban, e);
+        let s1 = with_hot(r.sums[b + 1], rests[b + 1], k, shares.rural, f[q * 3 + 1]);
+        let s2 = with_hot(r.sums[b + 2], rests[b + 2], k, shares.highway, f[q * 3 + 2]);
+        let s3 = with_cold(r.sums[b + 3], rests[b + 3], k, c);
         let m = s0.grams;
-        r[b] = m;
+        r.sums[b] = m;
         rests[b] = s0.rest;
         let m = s1.grams;
-        r[b + 1] = m;
+        r.sums[b + 1] = m;
         rests[b + 1] = s1.rest;
         let m = s2.grams;
-        r[b + 2] = m;
+        r.sums[b + 2] = m;
         rests[b + 2] = s2.rest;
         let m = s3.grams;
-        r[b + 3] = m;
+        r.sums[b + 3] = m;
         rests[b + 3] = s3.rest;
         q += 1;
     }
@@ -285,7 +285,8 @@ fn run_with(run: Run, rec: Record) -> Run
     let x = run.x;
     let mut rests = run.rests;
     let old = run.grams;
-    let grams = sums_with(old, &mut rests, &x, rec);
+    let whole = sums_with(WholeGrams { sums: old }, &mut rests, &x, rec);
+    let grams = whole.sums;
     let old = run.km;
     let km = kms_with(old, rec);
     Run {

@@ -15,6 +15,7 @@ use inventory::Record;
 use inventory::Run;
 use inventory::Shares;
 use inventory::Speeds;
+use recording::WholeGrams;
 use text::Field;
 use units::Refusal;
 use units::Speed;
@@ -22,9 +23,9 @@ use units::Verdict;
 
 // What a sheet gives: line 0 where it is taken; else the refusal, its line from 1, and the run of zeros.
 pub struct Sheet {
+    pub run: Run,
     pub verdict: Verdict,
     pub line: usize,
-    pub run: Run,
 }
 
 // A number with a sign, or none.
@@ -190,20 +191,26 @@ fn sent_back(reason: Refusal, line: usize) -> Sheet
     ensures { λ r. ⌜ Gives r (refusedAt (refusalNumber reason) line) ⌝ }
 {
     Sheet {
+        run: recording::zeros(),
         verdict: Verdict::Refused(reason),
         line,
-        run: recording::zeros(),
     }
 }
 
 // The record lines from a place on, of which the first is line 2. A record line has 41 bytes, so no LF is searched for;
-// the run is known to be in order, so that is not tested again.
+// the run is known to be in order, so that is not tested again, and it is kept by its parts, so that it is not copied.
 fn read_records(s: &[u8], from: usize, first: Run) -> Sheet
     requires { ⌜ from ≤ length (now s) ⌝ }
     requires { ⌜ inOrder first ≡ true ⌝ }
     ensures { λ r. ⌜ Gives r (fromRecords first 2 (lines (drop from (now (s .entry))))) ⌝ }
 {
-    let mut run = first;
+    let trip = first.trip;
+    let x = first.x;
+    let mut count = first.count;
+    let mut km = first.km;
+    let g = first.grams;
+    let mut whole = WholeGrams { sums: g };
+    let mut rests = first.rests;
     let mut at = from;
     let mut n: usize = 2;
     while at < s.len() {
@@ -218,22 +225,32 @@ fn read_records(s: &[u8], from: usize, first: Run) -> Sheet
             return sent_back(Refusal::LineShape, n);
         }
         let rec = line.rec;
-        let a = recording::add_ordered(run, rec);
-        let v = a.verdict;
+        let v = recording::add_verdict(count, rec);
         match v {
-            Verdict::Refused(x) => {
-                return sent_back(x, n);
+            Verdict::Refused(reason) => {
+                return sent_back(reason, n);
             }
             Verdict::Taken => {}
         }
-        run = a.run;
+        whole = recording::sums_with(whole, &mut rests, &x, rec);
+        let k = recording::kms_with(km, rec);
+        km = k;
+        count += 1;
         at += 41;
         n += 1;
     }
+    let grams = whole.sums;
     Sheet {
+        run: Run {
+            trip,
+            x,
+            count,
+            km,
+            grams,
+            rests,
+        },
         verdict: Verdict::Taken,
         line: 0,
-        run,
     }
 }
 

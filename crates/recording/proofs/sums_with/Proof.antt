@@ -16,8 +16,8 @@ use Rattle.recording.proofs.sums_with.Tie as tie
 abbrev Inv-loop : tie.InvT-loop
 Inv-loop rests₀ x rec r₀ shares fuel k f q₀ rests r q =
     (q ≤ 5) × (fuel ≤ 2)
-    × Between (record { 0 = 0 }) (gramsAfter (ofSums x r₀ rests₀) rec) r₀ 60 (fuel * 20) (fuel * 20 + q * 4) r
-    × Between 0 (restAfter (ofSums x r₀ rests₀) rec) rests₀ 60 (fuel * 20) (fuel * 20 + q * 4) rests
+    × Between (record { 0 = 0 }) (gramsAfter (ofSums x (r₀ .sums) rests₀) rec) (r₀ .sums) 60 (fuel * 20) (fuel * 20 + q * 4) (r .sums)
+    × Between 0 (restAfter (ofSums x (r₀ .sums) rests₀) rec) rests₀ 60 (fuel * 20) (fuel * 20 + q * 4) rests
 
 abbrev μ-loop : tie.MeasureT-loop
 μ-loop rests₀ x rec r₀ shares fuel k f q₀ rests r q = 5 - q
@@ -71,14 +71,14 @@ cold-rate-requires c κs = let s = c .before .before .before .before .before .be
 mul-with-hot : tie.Need-mul-with-hot Inv-loop μ-loop
 mul-with-hot c = omega (arith, c .before .before .before .loop .inv .0, c .before .before .before .loop .inv .1, c .before .before .loop-test .taken)
 
-array-copy-out-with-hot : tie.Need-array-copy-out-with-hot Inv-loop μ-loop
-array-copy-out-with-hot c = omega (arith, c .before .before .before .loop .inv .0, c .before .before .before .loop .inv .1, c .before .before .loop-test .taken)
+element-copy-out-with-hot : tie.Need-element-copy-out-with-hot Inv-loop μ-loop
+element-copy-out-with-hot c = omega (arith, c .before .before .before .loop .inv .0, c .before .before .before .loop .inv .1, c .before .before .loop-test .taken)
 
 mul-with-hot-2 : tie.Need-mul-with-hot-2 Inv-loop μ-loop
 mul-with-hot-2 c = omega (arith, c .before .before .before .before .loop .inv .0, c .before .before .before .before .loop .inv .1, c .before .before .before .loop-test .taken)
 
-element-copy-out-with-hot : tie.Need-element-copy-out-with-hot Inv-loop μ-loop
-element-copy-out-with-hot c = omega (arith, c .before .before .before .before .loop .inv .0, c .before .before .before .before .loop .inv .1, c .before .before .before .loop-test .taken)
+element-copy-out-with-hot-2 : tie.Need-element-copy-out-with-hot-2 Inv-loop μ-loop
+element-copy-out-with-hot-2 c = omega (arith, c .before .before .before .before .loop .inv .0, c .before .before .before .before .loop .inv .1, c .before .before .before .loop-test .taken)
 
 with-hot-requires : tie.Need-with-hot-requires Inv-loop μ-loop
 unfolding vehicleKm
@@ -90,8 +90,8 @@ add-with-hot c = omega (arith, c .before .before .before .before .before .before
 mul-with-hot-3 : tie.Need-mul-with-hot-3 Inv-loop μ-loop
 mul-with-hot-3 c = omega (arith, c .before .before .before .before .before .before .loop .inv .0, c .before .before .before .before .before .before .loop .inv .1, c .before .before .before .before .before .loop-test .taken)
 
-array-copy-out-with-hot-2 : tie.Need-array-copy-out-with-hot-2 Inv-loop μ-loop
-array-copy-out-with-hot-2 c = omega (arith, c .before .before .before .before .before .before .loop .inv .0, c .before .before .before .before .before .before .loop .inv .1, c .before .before .before .before .before .loop-test .taken)
+element-copy-out-with-hot-3 : tie.Need-element-copy-out-with-hot-3 Inv-loop μ-loop
+element-copy-out-with-hot-3 c = omega (arith, c .before .before .before .before .before .before .loop .inv .0, c .before .before .before .before .before .before .loop .inv .1, c .before .before .before .before .before .loop-test .taken)
 
 add-with-hot-2 : tie.Need-add-with-hot-2 Inv-loop μ-loop
 add-with-hot-2 c = omega (arith, c .before .before .before .before .before .before .before .loop .inv .0, c .before .before .before .before .before .before .before .loop .inv .1, c .before .before .before .before .before .before .loop-test .taken)
@@ -99,8 +99,8 @@ add-with-hot-2 c = omega (arith, c .before .before .before .before .before .befo
 mul-with-hot-4 : tie.Need-mul-with-hot-4 Inv-loop μ-loop
 mul-with-hot-4 c = omega (arith, c .before .before .before .before .before .before .before .loop .inv .0, c .before .before .before .before .before .before .before .loop .inv .1, c .before .before .before .before .before .before .loop-test .taken)
 
-element-copy-out-with-hot-2 : tie.Need-element-copy-out-with-hot-2 Inv-loop μ-loop
-element-copy-out-with-hot-2 c = omega (arith, c .before .before .before .before .before .before .before .loop .inv .0, c .before .before .before .before .before .before .before .loop .inv .1, c .before .before .before .before .before .before .loop-test .taken)
+element-copy-out-with-hot-4 : tie.Need-element-copy-out-with-hot-4 Inv-loop μ-loop
+element-copy-out-with-hot-4 c = omega (arith, c .before .before .before .before .before .before .before .loop .inv .0, c .before .before .before .before .before .before .before .loop .inv .1, c .before .before .before .before .before .before .loop-test .taken)
 
 mul-with-hot-5 : tie.Need-mul-with-hot-5 Inv-loop μ-loop
 mul-with-hot-5 c = omega (arith, c .before .before .before .before .before .before .before .before .loop .inv .0, c .before .before .before .before .before .before .before .before .loop .inv .1, c .before .before .before .before .before .before .before .loop-test .taken)
@@ -124,8 +124,8 @@ add-with-hot-4 c = omega (arith, c .before .before .before .before .before .befo
 mul-with-hot-7 : tie.Need-mul-with-hot-7 Inv-loop μ-loop
 mul-with-hot-7 c = omega (arith, c .before .before .before .before .before .before .before .before .before .loop .inv .0, c .before .before .before .before .before .before .before .before .before .loop .inv .1, c .before .before .before .before .before .before .before .before .loop-test .taken)
 
-array-copy-out-with-hot-3 : tie.Need-array-copy-out-with-hot-3 Inv-loop μ-loop
-array-copy-out-with-hot-3 c = omega (arith, c .before .before .before .before .before .before .before .before .before .loop .inv .0, c .before .before .before .before .before .before .before .before .before .loop .inv .1, c .before .before .before .before .before .before .before .before .loop-test .taken)
+element-copy-out-with-hot-5 : tie.Need-element-copy-out-with-hot-5 Inv-loop μ-loop
+element-copy-out-with-hot-5 c = omega (arith, c .before .before .before .before .before .before .before .before .before .loop .inv .0, c .before .before .before .before .before .before .before .before .before .loop .inv .1, c .before .before .before .before .before .before .before .before .loop-test .taken)
 
 add-with-hot-5 : tie.Need-add-with-hot-5 Inv-loop μ-loop
 add-with-hot-5 c = omega (arith, c .before .before .before .before .before .before .before .before .before .before .loop .inv .0, c .before .before .before .before .before .before .before .before .before .before .loop .inv .1, c .before .before .before .before .before .before .before .before .before .loop-test .taken)
@@ -133,8 +133,8 @@ add-with-hot-5 c = omega (arith, c .before .before .before .before .before .befo
 mul-with-hot-8 : tie.Need-mul-with-hot-8 Inv-loop μ-loop
 mul-with-hot-8 c = omega (arith, c .before .before .before .before .before .before .before .before .before .before .loop .inv .0, c .before .before .before .before .before .before .before .before .before .before .loop .inv .1, c .before .before .before .before .before .before .before .before .before .loop-test .taken)
 
-element-copy-out-with-hot-3 : tie.Need-element-copy-out-with-hot-3 Inv-loop μ-loop
-element-copy-out-with-hot-3 c = omega (arith, c .before .before .before .before .before .before .before .before .before .before .loop .inv .0, c .before .before .before .before .before .before .before .before .before .before .loop .inv .1, c .before .before .before .before .before .before .before .before .before .loop-test .taken)
+element-copy-out-with-hot-6 : tie.Need-element-copy-out-with-hot-6 Inv-loop μ-loop
+element-copy-out-with-hot-6 c = omega (arith, c .before .before .before .before .before .before .before .before .before .before .loop .inv .0, c .before .before .before .before .before .before .before .before .before .before .loop .inv .1, c .before .before .before .before .before .before .before .before .before .loop-test .taken)
 
 mul-with-hot-9 : tie.Need-mul-with-hot-9 Inv-loop μ-loop
 mul-with-hot-9 c = omega (arith, c .before .before .before .before .before .before .before .before .before .before .before .loop .inv .0, c .before .before .before .before .before .before .before .before .before .before .before .loop .inv .1, c .before .before .before .before .before .before .before .before .before .before .loop-test .taken)
@@ -158,8 +158,8 @@ add-with-cold c = omega (arith, c .before .before .before .before .before .befor
 mul-with-cold : tie.Need-mul-with-cold Inv-loop μ-loop
 mul-with-cold c = omega (arith, c .before .before .before .before .before .before .before .before .before .before .before .before .loop .inv .0, c .before .before .before .before .before .before .before .before .before .before .before .before .loop .inv .1, c .before .before .before .before .before .before .before .before .before .before .before .loop-test .taken)
 
-array-copy-out-with-cold : tie.Need-array-copy-out-with-cold Inv-loop μ-loop
-array-copy-out-with-cold c = omega (arith, c .before .before .before .before .before .before .before .before .before .before .before .before .loop .inv .0, c .before .before .before .before .before .before .before .before .before .before .before .before .loop .inv .1, c .before .before .before .before .before .before .before .before .before .before .before .loop-test .taken)
+element-copy-out-with-cold : tie.Need-element-copy-out-with-cold Inv-loop μ-loop
+element-copy-out-with-cold c = omega (arith, c .before .before .before .before .before .before .before .before .before .before .before .before .loop .inv .0, c .before .before .before .before .before .before .before .before .before .before .before .before .loop .inv .1, c .before .before .before .before .before .before .before .before .before .before .before .loop-test .taken)
 
 add-with-cold-2 : tie.Need-add-with-cold-2 Inv-loop μ-loop
 add-with-cold-2 c = omega (arith, c .before .before .before .before .before .before .before .before .before .before .before .before .before .loop .inv .0, c .before .before .before .before .before .before .before .before .before .before .before .before .before .loop .inv .1, c .before .before .before .before .before .before .before .before .before .before .before .before .loop-test .taken)
@@ -167,18 +167,18 @@ add-with-cold-2 c = omega (arith, c .before .before .before .before .before .bef
 mul-with-cold-2 : tie.Need-mul-with-cold-2 Inv-loop μ-loop
 mul-with-cold-2 c = omega (arith, c .before .before .before .before .before .before .before .before .before .before .before .before .before .loop .inv .0, c .before .before .before .before .before .before .before .before .before .before .before .before .before .loop .inv .1, c .before .before .before .before .before .before .before .before .before .before .before .before .loop-test .taken)
 
-element-copy-out-with-cold : tie.Need-element-copy-out-with-cold Inv-loop μ-loop
-element-copy-out-with-cold c = omega (arith, c .before .before .before .before .before .before .before .before .before .before .before .before .before .loop .inv .0, c .before .before .before .before .before .before .before .before .before .before .before .before .before .loop .inv .1, c .before .before .before .before .before .before .before .before .before .before .before .before .loop-test .taken)
+element-copy-out-with-cold-2 : tie.Need-element-copy-out-with-cold-2 Inv-loop μ-loop
+element-copy-out-with-cold-2 c = omega (arith, c .before .before .before .before .before .before .before .before .before .before .before .before .before .loop .inv .0, c .before .before .before .before .before .before .before .before .before .before .before .before .before .loop .inv .1, c .before .before .before .before .before .before .before .before .before .before .before .before .loop-test .taken)
 
 with-cold-requires : tie.Need-with-cold-requires Inv-loop μ-loop
 unfolding vehicleKm
-with-cold-requires c κs = let s = c .before .before .before .before .before .before .before .before .before .before .before .before .before .before .before .before .before .before .before in let l = c .before .before .before .before .before .before .before .before .before .before .before .before .before .before .loop in let h = c .before .before .before .before .before .before .before .before .before .before .before .before .before .loop-test .taken in let fuel = c .before .before .before .before .before .before .before .before .before .before .before .before .before .before .before .before .before .fuel-of .result in (slot-small (s .pre .1 .0) (l .inv .2) (l .inv .3) (fuel * 20 + l .q * 4 + 3) (omega (arith, l .inv .0, l .inv .1, h)) (omega (arith, l .inv .0, l .inv .1, h)), (s .pre .0 .distance, rate-small (s .args .rec) _ (c .before .before .before .before .before .before .before .before .before .before .before .before .before .before .before .factors-of .ensures) (l .q) h (ofSums (s .args .x .now) (s .args .grams) (s .args .rests .now)) fuel (c .before .before .before .before .before .before .before .before .before .before .before .before .before .before .before .before .before .fuel-of .ensures) (s .pre .0) (s .pre .1 .0) _ (c .before .before .before .before .before .before .before .before .before .before .before .cold-rate .ensures)))
+with-cold-requires c κs = let s = c .before .before .before .before .before .before .before .before .before .before .before .before .before .before .before .before .before .before .before in let l = c .before .before .before .before .before .before .before .before .before .before .before .before .before .before .loop in let h = c .before .before .before .before .before .before .before .before .before .before .before .before .before .loop-test .taken in let fuel = c .before .before .before .before .before .before .before .before .before .before .before .before .before .before .before .before .before .fuel-of .result in (slot-small (s .pre .1 .0) (l .inv .2) (l .inv .3) (fuel * 20 + l .q * 4 + 3) (omega (arith, l .inv .0, l .inv .1, h)) (omega (arith, l .inv .0, l .inv .1, h)), (s .pre .0 .distance, rate-small (s .args .rec) _ (c .before .before .before .before .before .before .before .before .before .before .before .before .before .before .before .factors-of .ensures) (l .q) h (ofSums (s .args .x .now) (s .args .grams .sums) (s .args .rests .now)) fuel (c .before .before .before .before .before .before .before .before .before .before .before .before .before .before .before .before .before .fuel-of .ensures) (s .pre .0) (s .pre .1 .0) _ (c .before .before .before .before .before .before .before .before .before .before .before .cold-rate .ensures)))
 
-mul-r : tie.Need-mul-r Inv-loop μ-loop
-mul-r c = omega (arith, c .before .before .before .before .before .before .before .before .before .before .before .before .before .before .before .before .loop .inv .0, c .before .before .before .before .before .before .before .before .before .before .before .before .before .before .before .before .loop .inv .1, c .before .before .before .before .before .before .before .before .before .before .before .before .before .before .before .loop-test .taken)
+mul-m : tie.Need-mul-m Inv-loop μ-loop
+mul-m c = omega (arith, c .before .before .before .before .before .before .before .before .before .before .before .before .before .before .before .before .loop .inv .0, c .before .before .before .before .before .before .before .before .before .before .before .before .before .before .before .before .loop .inv .1, c .before .before .before .before .before .before .before .before .before .before .before .before .before .before .before .loop-test .taken)
 
-array-set-from-r : tie.Need-array-set-from-r Inv-loop μ-loop
-array-set-from-r c = omega (arith, c .before .before .before .before .before .before .before .before .before .before .before .before .before .before .before .before .loop .inv .0, c .before .before .before .before .before .before .before .before .before .before .before .before .before .before .before .before .loop .inv .1, c .before .before .before .before .before .before .before .before .before .before .before .before .before .before .before .loop-test .taken)
+element-set-from-m : tie.Need-element-set-from-m Inv-loop μ-loop
+element-set-from-m c = omega (arith, c .before .before .before .before .before .before .before .before .before .before .before .before .before .before .before .before .loop .inv .0, c .before .before .before .before .before .before .before .before .before .before .before .before .before .before .before .before .loop .inv .1, c .before .before .before .before .before .before .before .before .before .before .before .before .before .before .before .loop-test .taken)
 
 mul-rests : tie.Need-mul-rests Inv-loop μ-loop
 mul-rests c = omega (arith, c .before .before .before .before .before .before .before .before .before .before .before .before .before .before .before .before .loop .inv .0, c .before .before .before .before .before .before .before .before .before .before .before .before .before .before .before .before .loop .inv .1, c .before .before .before .before .before .before .before .before .before .before .before .before .before .before .before .loop-test .taken)
@@ -186,14 +186,14 @@ mul-rests c = omega (arith, c .before .before .before .before .before .before .b
 element-write-rests : tie.Need-element-write-rests Inv-loop μ-loop
 element-write-rests c = omega (arith, c .before .before .before .before .before .before .before .before .before .before .before .before .before .before .before .before .loop .inv .0, c .before .before .before .before .before .before .before .before .before .before .before .before .before .before .before .before .loop .inv .1, c .before .before .before .before .before .before .before .before .before .before .before .before .before .before .before .loop-test .taken)
 
-add-r : tie.Need-add-r Inv-loop μ-loop
-add-r c = omega (arith, c .before .before .before .before .before .before .before .before .before .before .before .before .before .before .before .before .before .loop .inv .0, c .before .before .before .before .before .before .before .before .before .before .before .before .before .before .before .before .before .loop .inv .1, c .before .before .before .before .before .before .before .before .before .before .before .before .before .before .before .before .loop-test .taken)
+add-m : tie.Need-add-m Inv-loop μ-loop
+add-m c = omega (arith, c .before .before .before .before .before .before .before .before .before .before .before .before .before .before .before .before .before .loop .inv .0, c .before .before .before .before .before .before .before .before .before .before .before .before .before .before .before .before .before .loop .inv .1, c .before .before .before .before .before .before .before .before .before .before .before .before .before .before .before .before .loop-test .taken)
 
-mul-r-2 : tie.Need-mul-r-2 Inv-loop μ-loop
-mul-r-2 c = omega (arith, c .before .before .before .before .before .before .before .before .before .before .before .before .before .before .before .before .before .loop .inv .0, c .before .before .before .before .before .before .before .before .before .before .before .before .before .before .before .before .before .loop .inv .1, c .before .before .before .before .before .before .before .before .before .before .before .before .before .before .before .before .loop-test .taken)
+mul-m-2 : tie.Need-mul-m-2 Inv-loop μ-loop
+mul-m-2 c = omega (arith, c .before .before .before .before .before .before .before .before .before .before .before .before .before .before .before .before .before .loop .inv .0, c .before .before .before .before .before .before .before .before .before .before .before .before .before .before .before .before .before .loop .inv .1, c .before .before .before .before .before .before .before .before .before .before .before .before .before .before .before .before .loop-test .taken)
 
-array-set-from-r-2 : tie.Need-array-set-from-r-2 Inv-loop μ-loop
-array-set-from-r-2 c = omega (arith, c .before .before .before .before .before .before .before .before .before .before .before .before .before .before .before .before .before .loop .inv .0, c .before .before .before .before .before .before .before .before .before .before .before .before .before .before .before .before .before .loop .inv .1, c .before .before .before .before .before .before .before .before .before .before .before .before .before .before .before .before .loop-test .taken)
+element-set-from-m-2 : tie.Need-element-set-from-m-2 Inv-loop μ-loop
+element-set-from-m-2 c = omega (arith, c .before .before .before .before .before .before .before .before .before .before .before .before .before .before .before .before .before .loop .inv .0, c .before .before .before .before .before .before .before .before .before .before .before .before .before .before .before .before .before .loop .inv .1, c .before .before .before .before .before .before .before .before .before .before .before .before .before .before .before .before .loop-test .taken)
 
 add-rests : tie.Need-add-rests Inv-loop μ-loop
 add-rests c = omega (arith, c .before .before .before .before .before .before .before .before .before .before .before .before .before .before .before .before .before .loop .inv .0, c .before .before .before .before .before .before .before .before .before .before .before .before .before .before .before .before .before .loop .inv .1, c .before .before .before .before .before .before .before .before .before .before .before .before .before .before .before .before .loop-test .taken)
@@ -204,14 +204,14 @@ mul-rests-2 c = omega (arith, c .before .before .before .before .before .before 
 element-write-rests-2 : tie.Need-element-write-rests-2 Inv-loop μ-loop
 element-write-rests-2 c = omega (arith, c .before .before .before .before .before .before .before .before .before .before .before .before .before .before .before .before .before .loop .inv .0, c .before .before .before .before .before .before .before .before .before .before .before .before .before .before .before .before .before .loop .inv .1, c .before .before .before .before .before .before .before .before .before .before .before .before .before .before .before .before .loop-test .taken)
 
-add-r-2 : tie.Need-add-r-2 Inv-loop μ-loop
-add-r-2 c = omega (arith, c .before .before .before .before .before .before .before .before .before .before .before .before .before .before .before .before .before .before .loop .inv .0, c .before .before .before .before .before .before .before .before .before .before .before .before .before .before .before .before .before .before .loop .inv .1, c .before .before .before .before .before .before .before .before .before .before .before .before .before .before .before .before .before .loop-test .taken)
+add-m-2 : tie.Need-add-m-2 Inv-loop μ-loop
+add-m-2 c = omega (arith, c .before .before .before .before .before .before .before .before .before .before .before .before .before .before .before .before .before .before .loop .inv .0, c .before .before .before .before .before .before .before .before .before .before .before .before .before .before .before .before .before .before .loop .inv .1, c .before .before .before .before .before .before .before .before .before .before .before .before .before .before .before .before .before .loop-test .taken)
 
-mul-r-3 : tie.Need-mul-r-3 Inv-loop μ-loop
-mul-r-3 c = omega (arith, c .before .before .before .before .before .before .before .before .before .before .before .before .before .before .before .before .before .before .loop .inv .0, c .before .before .before .before .before .before .before .before .before .before .before .before .before .before .before .before .before .before .loop .inv .1, c .before .before .before .before .before .before .before .before .before .before .before .before .before .before .before .before .before .loop-test .taken)
+mul-m-3 : tie.Need-mul-m-3 Inv-loop μ-loop
+mul-m-3 c = omega (arith, c .before .before .before .before .before .before .before .before .before .before .before .before .before .before .before .before .before .before .loop .inv .0, c .before .before .before .before .before .before .before .before .before .before .before .before .before .before .before .before .before .before .loop .inv .1, c .before .before .before .before .before .before .before .before .before .before .before .before .before .before .before .before .before .loop-test .taken)
 
-array-set-from-r-3 : tie.Need-array-set-from-r-3 Inv-loop μ-loop
-array-set-from-r-3 c = omega (arith, c .before .before .before .before .before .before .before .before .before .before .before .before .before .before .before .before .before .before .loop .inv .0, c .before .before .before .before .before .before .before .before .before .before .before .before .before .before .before .before .before .before .loop .inv .1, c .before .before .before .before .before .before .before .before .before .before .before .before .before .before .before .before .before .loop-test .taken)
+element-set-from-m-3 : tie.Need-element-set-from-m-3 Inv-loop μ-loop
+element-set-from-m-3 c = omega (arith, c .before .before .before .before .before .before .before .before .before .before .before .before .before .before .before .before .before .before .loop .inv .0, c .before .before .before .before .before .before .before .before .before .before .before .before .before .before .before .before .before .before .loop .inv .1, c .before .before .before .before .before .before .before .before .before .before .before .before .before .before .before .before .before .loop-test .taken)
 
 add-rests-2 : tie.Need-add-rests-2 Inv-loop μ-loop
 add-rests-2 c = omega (arith, c .before .before .before .before .before .before .before .before .before .before .before .before .before .before .before .before .before .before .loop .inv .0, c .before .before .before .before .before .before .before .before .before .before .before .before .before .before .before .before .before .before .loop .inv .1, c .before .before .before .before .before .before .before .before .before .before .before .before .before .before .before .before .before .loop-test .taken)
@@ -222,14 +222,14 @@ mul-rests-3 c = omega (arith, c .before .before .before .before .before .before 
 element-write-rests-3 : tie.Need-element-write-rests-3 Inv-loop μ-loop
 element-write-rests-3 c = omega (arith, c .before .before .before .before .before .before .before .before .before .before .before .before .before .before .before .before .before .before .loop .inv .0, c .before .before .before .before .before .before .before .before .before .before .before .before .before .before .before .before .before .before .loop .inv .1, c .before .before .before .before .before .before .before .before .before .before .before .before .before .before .before .before .before .loop-test .taken)
 
-add-r-3 : tie.Need-add-r-3 Inv-loop μ-loop
-add-r-3 c = omega (arith, c .before .before .before .before .before .before .before .before .before .before .before .before .before .before .before .before .before .before .before .loop .inv .0, c .before .before .before .before .before .before .before .before .before .before .before .before .before .before .before .before .before .before .before .loop .inv .1, c .before .before .before .before .before .before .before .before .before .before .before .before .before .before .before .before .before .before .loop-test .taken)
+add-m-3 : tie.Need-add-m-3 Inv-loop μ-loop
+add-m-3 c = omega (arith, c .before .before .before .before .before .before .before .before .before .before .before .before .before .before .before .before .before .before .before .loop .inv .0, c .before .before .before .before .before .before .before .before .before .before .before .before .before .before .before .before .before .before .before .loop .inv .1, c .before .before .before .before .before .before .before .before .before .before .before .before .before .before .before .before .before .before .loop-test .taken)
 
-mul-r-4 : tie.Need-mul-r-4 Inv-loop μ-loop
-mul-r-4 c = omega (arith, c .before .before .before .before .before .before .before .before .before .before .before .before .before .before .before .before .before .before .before .loop .inv .0, c .before .before .before .before .before .before .before .before .before .before .before .before .before .before .before .before .before .before .before .loop .inv .1, c .before .before .before .before .before .before .before .before .before .before .before .before .before .before .before .before .before .before .loop-test .taken)
+mul-m-4 : tie.Need-mul-m-4 Inv-loop μ-loop
+mul-m-4 c = omega (arith, c .before .before .before .before .before .before .before .before .before .before .before .before .before .before .before .before .before .before .before .loop .inv .0, c .before .before .before .before .before .before .before .before .before .before .before .before .before .before .before .before .before .before .before .loop .inv .1, c .before .before .before .before .before .before .before .before .before .before .before .before .before .before .before .before .before .before .loop-test .taken)
 
-array-set-from-r-4 : tie.Need-array-set-from-r-4 Inv-loop μ-loop
-array-set-from-r-4 c = omega (arith, c .before .before .before .before .before .before .before .before .before .before .before .before .before .before .before .before .before .before .before .loop .inv .0, c .before .before .before .before .before .before .before .before .before .before .before .before .before .before .before .before .before .before .before .loop .inv .1, c .before .before .before .before .before .before .before .before .before .before .before .before .before .before .before .before .before .before .loop-test .taken)
+element-set-from-m-4 : tie.Need-element-set-from-m-4 Inv-loop μ-loop
+element-set-from-m-4 c = omega (arith, c .before .before .before .before .before .before .before .before .before .before .before .before .before .before .before .before .before .before .before .loop .inv .0, c .before .before .before .before .before .before .before .before .before .before .before .before .before .before .before .before .before .before .before .loop .inv .1, c .before .before .before .before .before .before .before .before .before .before .before .before .before .before .before .before .before .before .loop-test .taken)
 
 add-rests-3 : tie.Need-add-rests-3 Inv-loop μ-loop
 add-rests-3 c = omega (arith, c .before .before .before .before .before .before .before .before .before .before .before .before .before .before .before .before .before .before .before .loop .inv .0, c .before .before .before .before .before .before .before .before .before .before .before .before .before .before .before .before .before .before .before .loop .inv .1, c .before .before .before .before .before .before .before .before .before .before .before .before .before .before .before .before .before .before .loop-test .taken)
@@ -254,7 +254,7 @@ loop-again c =
     let q = c .before .before .before .before .before .before .before .before .before .before .before .before .before .before .before .before .before .before .before .loop .q in
     let hq : q < 5 = c .before .before .before .before .before .before .before .before .before .before .before .before .before .before .before .before .before .before .loop-test .taken in
     let rec = s .args .rec in
-    let run = ofSums (s .args .x .now) (s .args .grams) (s .args .rests .now) in
+    let run = ofSums (s .args .x .now) (s .args .grams .sums) (s .args .rests .now) in
     let fuel = c .before .before .before .before .before .before .before .before .before .before .before .before .before .before .before .before .before .before .before .before .before .before .fuel-of .result in
     let ef : fuel ≡ fuelOf (rec .class) = c .before .before .before .before .before .before .before .before .before .before .before .before .before .before .before .before .before .before .before .before .before .before .fuel-of .ensures in
     let hf : fuel ≤ 2 = i .1 in
@@ -274,7 +274,7 @@ returns c =
     let s = c .before .before .before .before .before .before in
     let i = c .before .loop .inv in
     let e : c .before .loop .q ≡ 5 = omega (arith, i .0, c .loop-test .left) in
-    made (ofSums (s .args .x .now) (s .args .grams) (s .args .rests .now)) (s .args .rec) _ (c .before .before .before .before .fuel-of .ensures) (i .1) (s .pre .1 .0) _ (omega arith) _ _ (i .2) (i .3)
+    made (ofSums (s .args .x .now) (s .args .grams .sums) (s .args .rests .now)) (s .args .rec) _ (c .before .before .before .before .fuel-of .ensures) (i .1) (s .pre .1 .0) _ (omega arith) _ _ (i .2) (i .3)
 
 pub sums-with-spec : {M : Type 1} → statement M
 sums-with-spec =
@@ -298,16 +298,16 @@ sums-with-spec =
     element-copy-out-cold-rate
     cold-rate-requires
     mul-with-hot
-    array-copy-out-with-hot
-    mul-with-hot-2
     element-copy-out-with-hot
+    mul-with-hot-2
+    element-copy-out-with-hot-2
     with-hot-requires
     add-with-hot
     mul-with-hot-3
-    array-copy-out-with-hot-2
+    element-copy-out-with-hot-3
     add-with-hot-2
     mul-with-hot-4
-    element-copy-out-with-hot-2
+    element-copy-out-with-hot-4
     mul-with-hot-5
     add-with-hot-3
     mul-with-hot-6
@@ -315,10 +315,10 @@ sums-with-spec =
     with-hot-requires-2
     add-with-hot-4
     mul-with-hot-7
-    array-copy-out-with-hot-3
+    element-copy-out-with-hot-5
     add-with-hot-5
     mul-with-hot-8
-    element-copy-out-with-hot-3
+    element-copy-out-with-hot-6
     mul-with-hot-9
     add-with-hot-6
     mul-with-hot-10
@@ -326,30 +326,30 @@ sums-with-spec =
     with-hot-requires-3
     add-with-cold
     mul-with-cold
-    array-copy-out-with-cold
+    element-copy-out-with-cold
     add-with-cold-2
     mul-with-cold-2
-    element-copy-out-with-cold
+    element-copy-out-with-cold-2
     with-cold-requires
-    mul-r
-    array-set-from-r
+    mul-m
+    element-set-from-m
     mul-rests
     element-write-rests
-    add-r
-    mul-r-2
-    array-set-from-r-2
+    add-m
+    mul-m-2
+    element-set-from-m-2
     add-rests
     mul-rests-2
     element-write-rests-2
-    add-r-2
-    mul-r-3
-    array-set-from-r-3
+    add-m-2
+    mul-m-3
+    element-set-from-m-3
     add-rests-2
     mul-rests-3
     element-write-rests-3
-    add-r-3
-    mul-r-4
-    array-set-from-r-4
+    add-m-3
+    mul-m-4
+    element-set-from-m-4
     add-rests-3
     mul-rests-4
     element-write-rests-4
