@@ -9,11 +9,11 @@ use lib.ListN.{length, take, drop}
 use lib.Seq.{drop-drop}
 use Rattle.text.specs.declared.Field.{Field}
 use Rattle.text.specs.declared.Field.the-variants.{Plus, Minus, Bad}
-use Rattle.text.specs.Field.{parse}
+use Rattle.text.specs.Field.{parse, countOr, countIn}
 use Rattle.text.proofs.RoundTrip.{small, only-minus}
 use Rattle.sheet.specs.Lines.{fields, signedOf, numberIn, before, numbersIn}
 use Rattle.sheet.specs.Sheet.{andThen, countOf, countsOf}
-use Rattle.sheet.specs.Reading.{fieldsFrom, countOr, countIn, countsIn}
+use Rattle.sheet.specs.Reading.{fieldsFrom, countsIn}
 use Rattle.sheet.proofs.Lines.{before-back}
 
 -- fields from a place on

@@ -9,11 +9,11 @@ use native.Mathlib.Omega.{arith}
 use lib.IntN.{ℤ, pos, negsuc}
 use lib.ListN.{length, take, drop, set, replicate}
 use lib.Seq.{take-suc-set, append-snoc, take-all}
-use Rattle.text.specs.Field.{parse}
+use Rattle.text.specs.Field.{parse, countIn}
 use Rattle.sheet.specs.declared.Signed.the-variants as signed
 use Rattle.sheet.specs.Lines.{headWidths, fields, numberIn, before, numbersIn}
 use Rattle.sheet.specs.Sheet.{andThen, headWith}
-use Rattle.sheet.specs.Reading.{fieldsFrom, countIn, signedCase, tempsCase}
+use Rattle.sheet.specs.Reading.{fieldsFrom, signedCase, tempsCase}
 use Rattle.sheet.proofs.Counts.{fields-from, number-plus, count-small}
 
 -- what the first j elements of t and then r are

@@ -9,9 +9,9 @@ use mir.Syntax.{w64}
 use mir.Val.{SFits, toZ, ofZ}
 use mir.Facts.{toZ-pos, toZ-ofZ}
 use Rattle.text.specs.declared.Field.{Field}
-use Rattle.text.specs.Field.{parse}
+use Rattle.text.specs.Field.{parse, countIn}
 use Rattle.sheet.specs.Lines.{signedOf, numberIn}
-use Rattle.sheet.specs.Reading.{countOr, countIn, signedCase}
+use Rattle.sheet.specs.Reading.{signedCase}
 use Rattle.sheet.proofs.Counts.{count-most}
 
 pub fits-pos : (n : ℕ) → n < 1000000000 → SFits w64 (pos n)
@@ -33,14 +33,14 @@ fits-minus n h = rw (minus n h) (fits-neg n h)
 pub as-minus : (n : ℕ) → n < 1000000000 → toZ w64 (ofZ w64 (pos 0 -ℤ toZ w64 n)) ≡ negℤ (pos n)
 as-minus n h = toZ-ofZ (fits-minus n h) ∙ minus n h
 
-module _ (s : List ℕ) (at w : ℕ) (x : Field) (e : x ≡ parse (take (at + w - at) (drop at s))) where
-  width : x ≡ parse (take w (drop at s))
-  width = let m : at + w - at ≡ w = omega arith in rw m at e
+-- the bytes that the readers are handed
+module _ (s : List ℕ) (at w : ℕ) where
+  field : take (at + w - at) (drop at s) ≡ take w (drop at s)
+  field = let m : at + w - at ≡ w = omega arith in rw m
 
-  pub count-said : (countOr x ≡ countIn (take w (drop at s))) × (countOr x ≤ 10000000000)
-  unfolding countIn
-  count-said = let p : countOr x ≡ countIn (take w (drop at s)) = ap countOr width in (p, omega (arith, count-most (take w (drop at s))))
+  pub count-said : (n : ℕ) → n ≡ countIn (take (at + w - at) (drop at s)) → (n ≡ countIn (take w (drop at s))) × (n ≤ 10000000000)
+  count-said n e = let p : n ≡ countIn (take w (drop at s)) = rw field at e in (p, omega (arith, count-most (take w (drop at s))))
 
-  pub signed-said : signedCase (signedOf x) ≡ signedCase (numberIn (take w (drop at s)))
+  pub signed-said : (x : Field) → x ≡ parse (take (at + w - at) (drop at s)) → signedCase (signedOf x) ≡ signedCase (numberIn (take w (drop at s)))
   unfolding numberIn
-  signed-said = ap (λ (y : Field). signedCase (signedOf y)) width
+  signed-said x e = ap (λ (y : Field). signedCase (signedOf y)) (rw field at e)

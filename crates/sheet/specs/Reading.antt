@@ -9,9 +9,7 @@ use lib.Dec.{ltb}
 use lib.IntN.{ℤ, pos}
 use lib.ListN.{take, drop, replicate}
 use Rattle.units.specs.Refusals.{verdictNumber}
-use Rattle.text.specs.declared.Field.{Field}
-use Rattle.text.specs.declared.Field.the-variants.{Plus, Minus, Bad}
-use Rattle.text.specs.Field.{parse}
+use Rattle.text.specs.Field.{countIn}
 use Rattle.inventory.specs.declared.Head.{Head}
 use Rattle.inventory.specs.declared.Record.{Record}
 use Rattle.sheet.specs.declared.Signed.{Signed}
@@ -27,15 +25,7 @@ unfoldable pub fieldsFrom : List ℕ → List ℕ → ℕ → List (List ℕ)
 fieldsFrom [] bytes at = []
 fieldsFrom (w ∷ ws) bytes at = take w (drop at bytes) ∷ fieldsFrom ws bytes (at + w)
 
--- a number without a minus; 10^10, more than nine numbers together, where there is none
-abbrev pub countOr : Field → ℕ
-countOr (Plus n) = n
-countOr (Minus n) = 10000000000
-countOr Bad = 10000000000
-
-unfoldable pub countIn : List ℕ → ℕ
-countIn field = countOr (parse field)
-
+-- what each field counts
 unfoldable pub countsIn : List (List ℕ) → List ℕ
 countsIn [] = []
 countsIn (f ∷ fs) = countIn f ∷ countsIn fs
@@ -46,7 +36,7 @@ together rec =
     rec .class + rec .vehicles + rec .km + rec .shares .urban + rec .shares .rural + rec .shares .highway
     + rec .speeds .urban .0 + rec .speeds .rural .0 + rec .speeds .highway .0
 
--- a record, and whether its nine fields are numbers
+-- a record, and whether its nine fields are numbers: together they stay below 10^10, which a field that is none counts alone
 abbrev pub recordLine : List ℕ → RecordLine
 recordLine ns = record { ok = ltb (together (recordWith ns)) 10000000000; rec = recordWith ns }
 

@@ -5,11 +5,12 @@ ghost use mathlib.Core.Option.{none};
 ghost use Prim.Native.Nat.{_+_, _≤_};
 ghost use lib.ListN.{length, take, drop, replicate};
 ghost use Rattle.units.specs.Refusals.{verdictNumber, refusalNumber};
+ghost use Rattle.text.specs.Field.{countIn};
 ghost use Rattle.inventory.specs.Order.{inOrder};
 ghost use Rattle.sheet.specs.Lines.{headWidths, recordWidths, lines, fields, numberIn, numbersIn};
 ghost use Rattle.sheet.specs.Sheet.{andThen, headWith, refusedAt, fromRecords, sheetNumber, sheetLine, sheetRun};
 ghost use Rattle.sheet.specs.Claim.{SheetClaim};
-ghost use Rattle.sheet.specs.Reading.{fieldsFrom, countIn, countsIn, recordLine, signedCase, tempsCase, headCase, Gives};
+ghost use Rattle.sheet.specs.Reading.{fieldsFrom, countsIn, recordLine, signedCase, tempsCase, headCase, Gives};
 use inventory::Head;
 use inventory::Record;
 use inventory::Run;
@@ -17,6 +18,7 @@ use inventory::Shares;
 use inventory::Speeds;
 use recording::WholeGrams;
 use text::Field;
+use text::NO_NUMBER;
 use units::Refusal;
 use units::Speed;
 use units::Verdict;
@@ -52,21 +54,13 @@ struct RecordLine {
     pub rec: Record,
 }
 
-// Stands for a field that is no number: more than nine numbers together.
-const NO_NUMBER: u64 = 10000000000;
-
 // The number without a minus in the w bytes from a place on.
 fn count_at(s: &[u8], at: usize, w: usize) -> u64
     requires { ⌜ at + w ≤ length (now s) ⌝ }
     ensures { λ r. ⌜ (r ≡ countIn (take w (drop at (now (s .entry))))) × (r ≤ 10000000000) ⌝ }
 {
     let e = at + w;
-    let f = text::read_number(&s[at..e]);
-    match f {
-        Field::Plus(n) => n,
-        Field::Minus(_) => NO_NUMBER,
-        Field::Bad => NO_NUMBER,
-    }
+    text::read_count(&s[at..e])
 }
 
 // The number with a sign in the w bytes from a place on.
@@ -143,7 +137,7 @@ fn head_at(s: &[u8]) -> HeadLine
     }
 }
 
-// The record in the 40 bytes from a place on. A field that is no number makes the sum too large.
+// The record in the 40 bytes from a place on. A field that is no number makes the sum too large: nine numbers stay below it.
 fn record_at(s: &[u8], at: usize) -> RecordLine
     requires { ⌜ at + 40 ≤ length (now s) ⌝ }
     ensures { λ r. ⌜ r ≡ recordLine (countsIn (fieldsFrom recordWidths (now (s .entry)) at)) ⌝ }

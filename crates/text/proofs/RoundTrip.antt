@@ -12,20 +12,13 @@ use borrow.Author.Tests.{ltb-true, leb-true, eqb-true, eqb-false, lt-ltb, ne-eqb
 use Rattle.text.specs.Field.{State, blank, signed, digits, wrong, isDigit, step, scan, said, parse}
 use Rattle.text.specs.Render.{glyphOf, pad, render, renderMinus}
 use Rattle.text.specs.declared.Field.the-variants.{Plus, Minus, Bad}
-use Rattle.text.proofs.Read.{digit-in, scan-wrong}
+use Rattle.text.proofs.Read.{and-both, digit-in, digit-back, scan-wrong}
 use Rattle.text.proofs.Write.{length-pad}
 
 -- what holds of each case of a test
 cond-cases : {A : Type 0} (P : A → Type 0) (t : Bool) (a b : A) → (t ≡ true → P a) → (t ≡ false → P b) → P (cond t a b)
 cond-cases P true a b f g = f refl
 cond-cases P false a b f g = g refl
-
-and-both : (a b : Bool) → (a && b) ≡ true → (a ≡ true) × (b ≡ true)
-and-both true b e = (refl, e)
-and-both false b e = let z : _≡_ {A = ℕ} 0 1 = cc in absurd (omega arith)
-
-digit-back : (b : ℕ) → isDigit b ≡ true → (48 ≤ b) × (b ≤ 57)
-digit-back b e = let p = and-both (leb 48 b) (leb b 57) e in (leb-true 48 b (p .0), leb-true b 57 (p .1))
 
 pub scan-append : (s : State) (xs ys : List ℕ) → scan s (xs ++ ys) ≡ scan (scan s xs) ys
 unfolding scan

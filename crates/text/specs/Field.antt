@@ -52,3 +52,12 @@ said wrong = Bad
 
 unfoldable pub parse : List ℕ → Field
 parse bytes = said (scan blank bytes)
+
+-- a number without a minus; 10^10, more than nine digits hold, where there is none
+abbrev pub countOr : Field → ℕ
+countOr (Plus n) = n
+countOr (Minus n) = 10000000000
+countOr Bad = 10000000000
+
+unfoldable pub countIn : List ℕ → ℕ
+countIn bytes = countOr (parse bytes)

@@ -2,11 +2,12 @@
 -- Assumes nothing.
 use Prim.Native.Nat.{ℕ, _≤_, _<_}
 use mathlib.Core.Path.{_≡_}
-use mathlib.Core.Bool.{Bool}
+use mathlib.Core.Bool.{false, cond}
 use mathlib.Core.List.{List, [], _∷_}
+use lib.Dec.{eqb}
 use lib.ListN.{length, getD, drop}
 use Rattle.text.specs.declared.Field.{Field}
-use Rattle.text.specs.declared.Field.the-variants.{Bad}
+use Rattle.text.specs.declared.Field.the-variants.{Plus, Bad}
 use Rattle.text.specs.Field.{blank, firstDigit, scan, said}
 
 -- the bytes before a place are spaces, and there is no space at it
@@ -15,7 +16,11 @@ pub record Spaces (bytes : List ℕ) (i : ℕ) : Type 0 where
   pub skipped : scan blank (drop i bytes) ≡ scan blank bytes
   pub ink : i < length bytes → getD bytes i 0 ≡ 32 → ⊥
 
--- what a field says from its first digit on, behind a minus or none
-unfoldable pub begun : Bool → List ℕ → Field
-begun minus [] = Bad
-begun minus (b ∷ bs) = said (scan (firstDigit minus b) bs)
+-- what a field without sign says from its first digit on
+unfoldable pub begun : List ℕ → Field
+begun [] = Bad
+begun (b ∷ bs) = said (scan (firstDigit false b) bs)
+
+-- what the answer of the digits' reader stands for
+abbrev pub fieldOf : ℕ → Field
+fieldOf n = cond (eqb n 10000000000) Bad (Plus n)

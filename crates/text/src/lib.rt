@@ -1,10 +1,9 @@
 // Numbers as fields of a text: right-justified with spaces in so many bytes, written and read.
 ghost use mathlib.Core.Path.{_≡_};
-ghost use Prim.Native.Nat.{_≤_};
 ghost use lib.ListN.{length, drop};
 ghost use Rattle.text.specs.Render.{glyphOf, render};
-ghost use Rattle.text.specs.Field.{parse};
-ghost use Rattle.text.specs.Reading.{begun, Spaces};
+ghost use Rattle.text.specs.Field.{parse, countIn};
+ghost use Rattle.text.specs.Reading.{fieldOf, begun, Spaces};
 
 // What a field says: a number, a number below 0 by its size, or no number.
 pub enum Field {
@@ -12,6 +11,9 @@ pub enum Field {
     Minus(u64),
     Bad,
 }
+
+// Stands for a field that is no number without a minus: more than nine digits hold.
+pub const NO_NUMBER: u64 = 10000000000;
 
 // The last digit of a number that may have run out: a space for 0.
 fn glyph(n: u64) -> u8
@@ -52,51 +54,44 @@ fn behind_spaces(f: &[u8]) -> usize
     i
 }
 
-// The number whose digits start at a place, behind a minus or none. Nine digits stay in 64 bits, so each turn has one test.
-fn digits_from(f: &[u8], at: usize, minus: bool) -> Field
-    requires { ⌜ at ≤ length (now f) ⌝ }
-    ensures { λ r. ⌜ r ≡ begun minus (drop at (now (f .entry))) ⌝ }
+// The number whose digits start at a place. Nine digits stay in 64 bits, so each turn has one test.
+fn digits_of(f: &[u8], at: usize) -> u64
+    ensures { λ r. ⌜ fieldOf r ≡ begun (drop at (now (f .entry))) ⌝ }
 {
     if f.len() <= at {
-        return Field::Bad;
+        return NO_NUMBER;
     }
-    let b = f[at];
-    if b < 48 {
-        return Field::Bad;
-    }
-    if 57 < b {
-        return Field::Bad;
-    }
-    if b == 48 {
-        if minus {
-            return Field::Bad;
-        }
+    if f[at] == 48 {
         if 1 < f.len() - at {
-            return Field::Bad;
+            return NO_NUMBER;
         }
-        return Field::Plus(0);
+        return 0;
     }
     if 9 < f.len() - at {
-        return Field::Bad;
+        return NO_NUMBER;
     }
-    let mut n = (b - 48) as u64;
-    let mut i = at + 1;
+    let mut n: u64 = 0;
+    let mut i = at;
     while i < f.len() {
         let d = f[i];
         if d < 48 {
-            return Field::Bad;
+            return NO_NUMBER;
         }
         if 57 < d {
-            return Field::Bad;
+            return NO_NUMBER;
         }
         n = n * 10 + (d - 48) as u64;
         i += 1;
     }
-    if minus {
-        Field::Minus(n)
-    } else {
-        Field::Plus(n)
-    }
+    n
+}
+
+// Reads a field without sign: a minus is no digit. The answer is a number alone, so that none goes through memory.
+pub fn read_count(f: &[u8]) -> u64
+    ensures { λ r. ⌜ r ≡ countIn (now (f .entry)) ⌝ }
+{
+    let i = behind_spaces(f);
+    digits_of(f, i)
 }
 
 // Reads a field.
@@ -108,7 +103,18 @@ pub fn read_number(f: &[u8]) -> Field
         return Field::Bad;
     }
     if f[i] == 45 {
-        return digits_from(f, i + 1, true);
+        let n = digits_of(f, i + 1);
+        if n == NO_NUMBER {
+            return Field::Bad;
+        }
+        if n == 0 {
+            return Field::Bad;
+        }
+        return Field::Minus(n);
     }
-    digits_from(f, i, false)
+    let n = digits_of(f, i);
+    if n == NO_NUMBER {
+        return Field::Bad;
+    }
+    Field::Plus(n)
 }
