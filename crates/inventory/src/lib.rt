@@ -142,12 +142,12 @@ fn sums_ok(run: Run) -> bool
 {
     let mut all: u64 = 0;
     let mut over: u64 = 0;
-    let mut k: usize = 0;
-    while k < 60 {
-        let g = run.grams[k];
+    let mut j: usize = 0;
+    while j < 60 {
+        let g = run.grams[j];
         all = all + g.0 / 64;
-        over = over + rest_over(run.rests[k]);
-        k += 1;
+        over = over + rest_over(run.rests[j]);
+        j += 1;
     }
     if over == 0 {
         if all < 15625000000 * run.count {

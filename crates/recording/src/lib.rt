@@ -239,11 +239,13 @@ pub fn sums_with(grams: WholeGrams, rests: &mut [u64; 60], x: &[u64; 15], rec: R
     let mut q: usize = 0;
     while q < 5 {
         let b = fuel * 20 + q * 4;
-        let e = f[q * 3];
-        let c = cold_rate(rec.class, e, x[fuel * 5 + q]);
-        let s0 = with_hot(r.sums[b], rests[b], k, shares.urban, e);
-        let s1 = with_hot(r.sums[b + 1], rests[b + 1], k, shares.rural, f[q * 3 + 1]);
-        let s2 = with_hot(r.sums[b + 2], rests[b + 2], k, shares.highway, f[q * 3 + 2]);
+        let urban = f[q * 3];
+        let rural = f[q * 3 + 1];
+        let highway = f[q * 3 + 2];
+        let c = cold_rate(rec.class, urban, x[fuel * 5 + q]);
+        let s0 = with_hot(r.sums[b], rests[b], k, shares.urban, urban);
+        let s1 = with_hot(r.sums[b + 1], rests[b + 1], k, shares.rural, rural);
+        let s2 = with_hot(r.sums[b + 2], rests[b + 2], k, shares.highway, highway);
         let s3 = with_cold(r.sums[b + 3], rests[b + 3], k, c);
         let m = s0.grams;
         r.sums[b] = m;

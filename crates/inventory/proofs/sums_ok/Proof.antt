@@ -9,10 +9,10 @@ use Rattle.inventory.proofs.sums_ok.Tie as tie
 
 -- each turn adds less than 2^58 and less than 2^35
 abbrev Inv-loop : tie.InvT-loop
-Inv-loop run all₀ over₀ k₀ all over k = (k ≤ 60) × (all ≤ 288230376151711744 * k) × (over ≤ 34359738368 * k) × Seen run k all over
+Inv-loop run all₀ over₀ j₀ all over j = (j ≤ 60) × (all ≤ 288230376151711744 * j) × (over ≤ 34359738368 * j) × Seen run j all over
 
 abbrev μ-loop : tie.MeasureT-loop
-μ-loop run all₀ over₀ k₀ all over k = 60 - k
+μ-loop run all₀ over₀ j₀ all over j = 60 - j
 
 loop-holds : tie.Need-loop-holds Inv-loop μ-loop
 loop-holds c = (search needs, omega arith, omega arith, seen-none (c .args .t1) _ _)
@@ -38,8 +38,8 @@ rest-over-requires c κs = search needs
 add-over : tie.Need-add-over Inv-loop μ-loop
 add-over c = omega arith
 
-add-k : tie.Need-add-k Inv-loop μ-loop
-add-k c = search needs
+add-j : tie.Need-add-j Inv-loop μ-loop
+add-j c = search needs
 
 loop-less : tie.Need-loop-less Inv-loop μ-loop
 loop-less c = search needs
@@ -73,7 +73,7 @@ sums-ok-spec =
     element-copy-out-rest-over
     rest-over-requires
     add-over
-    add-k
+    add-j
     loop-less
     loop-again
     mul-if2

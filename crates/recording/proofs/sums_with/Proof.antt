@@ -25,9 +25,9 @@ abbrev μ-loop : tie.MeasureT-loop
 fuel-of-requires : tie.Need-fuel-of-requires Inv-loop μ-loop
 fuel-of-requires c κs = search needs
 
-mul-t22 : tie.Need-mul-t22 Inv-loop μ-loop
+mul-t24 : tie.Need-mul-t24 Inv-loop μ-loop
 unfolding vehicleKm
-mul-t22 c = let s = c .before .before .before in let d : s .args .rec .vehicles * s .args .rec .km ≤ 1000000000 = s .pre .0 .distance in omega arith
+mul-t24 c = let s = c .before .before .before in let d : s .args .rec .vehicles * s .args .rec .km ≤ 1000000000 = s .pre .0 .distance in omega arith
 
 factors-of-requires : tie.Need-factors-of-requires Inv-loop μ-loop
 factors-of-requires c κs = let d = c .before .before .before .pre .0 .driven in (d 0 (omega arith), d 1 (omega arith), d 2 (omega arith))
@@ -44,14 +44,38 @@ mul-b-2 c = search needs
 add-b : tie.Need-add-b Inv-loop μ-loop
 add-b c = search needs
 
-mul-e : tie.Need-mul-e Inv-loop μ-loop
-mul-e c = search needs
+mul-urban : tie.Need-mul-urban Inv-loop μ-loop
+mul-urban c = search needs
 
-mul-e-2 : tie.Need-mul-e-2 Inv-loop μ-loop
-mul-e-2 c = search needs
+mul-urban-2 : tie.Need-mul-urban-2 Inv-loop μ-loop
+mul-urban-2 c = search needs
 
-array-read-e : tie.Need-array-read-e Inv-loop μ-loop
-array-read-e c = search needs
+array-read-urban : tie.Need-array-read-urban Inv-loop μ-loop
+array-read-urban c = search needs
+
+mul-rural : tie.Need-mul-rural Inv-loop μ-loop
+mul-rural c = search needs
+
+add-rural : tie.Need-add-rural Inv-loop μ-loop
+add-rural c = search needs
+
+mul-rural-2 : tie.Need-mul-rural-2 Inv-loop μ-loop
+mul-rural-2 c = search needs
+
+array-read-rural : tie.Need-array-read-rural Inv-loop μ-loop
+array-read-rural c = search needs
+
+mul-highway : tie.Need-mul-highway Inv-loop μ-loop
+mul-highway c = search needs
+
+add-highway : tie.Need-add-highway Inv-loop μ-loop
+add-highway c = search needs
+
+mul-highway-2 : tie.Need-mul-highway-2 Inv-loop μ-loop
+mul-highway-2 c = search needs
+
+array-read-highway : tie.Need-array-read-highway Inv-loop μ-loop
+array-read-highway c = search needs
 
 mul-cold-rate : tie.Need-mul-cold-rate Inv-loop μ-loop
 mul-cold-rate c = search needs
@@ -102,51 +126,27 @@ mul-with-hot-4 c = omega (arith, c .before .before .before .before .before .befo
 element-copy-out-with-hot-4 : tie.Need-element-copy-out-with-hot-4 Inv-loop μ-loop
 element-copy-out-with-hot-4 c = omega (arith, c .before .before .before .before .before .before .before .loop .inv .0, c .before .before .before .before .before .before .before .loop .inv .1, c .before .before .before .before .before .before .loop-test .taken)
 
-mul-with-hot-5 : tie.Need-mul-with-hot-5 Inv-loop μ-loop
-mul-with-hot-5 c = omega (arith, c .before .before .before .before .before .before .before .before .loop .inv .0, c .before .before .before .before .before .before .before .before .loop .inv .1, c .before .before .before .before .before .before .before .loop-test .taken)
-
-add-with-hot-3 : tie.Need-add-with-hot-3 Inv-loop μ-loop
-add-with-hot-3 c = omega (arith, c .before .before .before .before .before .before .before .before .loop .inv .0, c .before .before .before .before .before .before .before .before .loop .inv .1, c .before .before .before .before .before .before .before .loop-test .taken)
-
-mul-with-hot-6 : tie.Need-mul-with-hot-6 Inv-loop μ-loop
-mul-with-hot-6 c = omega (arith, c .before .before .before .before .before .before .before .before .loop .inv .0, c .before .before .before .before .before .before .before .before .loop .inv .1, c .before .before .before .before .before .before .before .loop-test .taken)
-
-array-read-with-hot : tie.Need-array-read-with-hot Inv-loop μ-loop
-array-read-with-hot c = omega (arith, c .before .before .before .before .before .before .before .before .loop .inv .0, c .before .before .before .before .before .before .before .before .loop .inv .1, c .before .before .before .before .before .before .before .loop-test .taken)
-
 with-hot-requires-2 : tie.Need-with-hot-requires-2 Inv-loop μ-loop
 unfolding vehicleKm
 with-hot-requires-2 c κs = let s = c .before .before .before .before .before .before .before .before .before .before .before .before .before in let l = c .before .before .before .before .before .before .before .before .loop in let h = c .before .before .before .before .before .before .before .loop-test .taken in let fuel = c .before .before .before .before .before .before .before .before .before .before .before .fuel-of .result in (slot-small (s .pre .1 .0) (l .inv .2) (l .inv .3) (fuel * 20 + l .q * 4 + 1) (omega (arith, l .inv .0, l .inv .1, h)) (omega (arith, l .inv .0, l .inv .1, h)), (s .pre .0 .distance, s .pre .0 .share 1 (omega arith), factor-small (s .args .rec) _ (c .before .before .before .before .before .before .before .before .before .factors-of .ensures) (l .q) h (s .pre .0) 1 (l .q * 3 + 1) (omega arith) (omega arith)))
 
-add-with-hot-4 : tie.Need-add-with-hot-4 Inv-loop μ-loop
-add-with-hot-4 c = omega (arith, c .before .before .before .before .before .before .before .before .before .loop .inv .0, c .before .before .before .before .before .before .before .before .before .loop .inv .1, c .before .before .before .before .before .before .before .before .loop-test .taken)
+add-with-hot-3 : tie.Need-add-with-hot-3 Inv-loop μ-loop
+add-with-hot-3 c = omega (arith, c .before .before .before .before .before .before .before .before .before .loop .inv .0, c .before .before .before .before .before .before .before .before .before .loop .inv .1, c .before .before .before .before .before .before .before .before .loop-test .taken)
 
-mul-with-hot-7 : tie.Need-mul-with-hot-7 Inv-loop μ-loop
-mul-with-hot-7 c = omega (arith, c .before .before .before .before .before .before .before .before .before .loop .inv .0, c .before .before .before .before .before .before .before .before .before .loop .inv .1, c .before .before .before .before .before .before .before .before .loop-test .taken)
+mul-with-hot-5 : tie.Need-mul-with-hot-5 Inv-loop μ-loop
+mul-with-hot-5 c = omega (arith, c .before .before .before .before .before .before .before .before .before .loop .inv .0, c .before .before .before .before .before .before .before .before .before .loop .inv .1, c .before .before .before .before .before .before .before .before .loop-test .taken)
 
 element-copy-out-with-hot-5 : tie.Need-element-copy-out-with-hot-5 Inv-loop μ-loop
 element-copy-out-with-hot-5 c = omega (arith, c .before .before .before .before .before .before .before .before .before .loop .inv .0, c .before .before .before .before .before .before .before .before .before .loop .inv .1, c .before .before .before .before .before .before .before .before .loop-test .taken)
 
-add-with-hot-5 : tie.Need-add-with-hot-5 Inv-loop μ-loop
-add-with-hot-5 c = omega (arith, c .before .before .before .before .before .before .before .before .before .before .loop .inv .0, c .before .before .before .before .before .before .before .before .before .before .loop .inv .1, c .before .before .before .before .before .before .before .before .before .loop-test .taken)
+add-with-hot-4 : tie.Need-add-with-hot-4 Inv-loop μ-loop
+add-with-hot-4 c = omega (arith, c .before .before .before .before .before .before .before .before .before .before .loop .inv .0, c .before .before .before .before .before .before .before .before .before .before .loop .inv .1, c .before .before .before .before .before .before .before .before .before .loop-test .taken)
 
-mul-with-hot-8 : tie.Need-mul-with-hot-8 Inv-loop μ-loop
-mul-with-hot-8 c = omega (arith, c .before .before .before .before .before .before .before .before .before .before .loop .inv .0, c .before .before .before .before .before .before .before .before .before .before .loop .inv .1, c .before .before .before .before .before .before .before .before .before .loop-test .taken)
+mul-with-hot-6 : tie.Need-mul-with-hot-6 Inv-loop μ-loop
+mul-with-hot-6 c = omega (arith, c .before .before .before .before .before .before .before .before .before .before .loop .inv .0, c .before .before .before .before .before .before .before .before .before .before .loop .inv .1, c .before .before .before .before .before .before .before .before .before .loop-test .taken)
 
 element-copy-out-with-hot-6 : tie.Need-element-copy-out-with-hot-6 Inv-loop μ-loop
 element-copy-out-with-hot-6 c = omega (arith, c .before .before .before .before .before .before .before .before .before .before .loop .inv .0, c .before .before .before .before .before .before .before .before .before .before .loop .inv .1, c .before .before .before .before .before .before .before .before .before .loop-test .taken)
-
-mul-with-hot-9 : tie.Need-mul-with-hot-9 Inv-loop μ-loop
-mul-with-hot-9 c = omega (arith, c .before .before .before .before .before .before .before .before .before .before .before .loop .inv .0, c .before .before .before .before .before .before .before .before .before .before .before .loop .inv .1, c .before .before .before .before .before .before .before .before .before .before .loop-test .taken)
-
-add-with-hot-6 : tie.Need-add-with-hot-6 Inv-loop μ-loop
-add-with-hot-6 c = omega (arith, c .before .before .before .before .before .before .before .before .before .before .before .loop .inv .0, c .before .before .before .before .before .before .before .before .before .before .before .loop .inv .1, c .before .before .before .before .before .before .before .before .before .before .loop-test .taken)
-
-mul-with-hot-10 : tie.Need-mul-with-hot-10 Inv-loop μ-loop
-mul-with-hot-10 c = omega (arith, c .before .before .before .before .before .before .before .before .before .before .before .loop .inv .0, c .before .before .before .before .before .before .before .before .before .before .before .loop .inv .1, c .before .before .before .before .before .before .before .before .before .before .loop-test .taken)
-
-array-read-with-hot-2 : tie.Need-array-read-with-hot-2 Inv-loop μ-loop
-array-read-with-hot-2 c = omega (arith, c .before .before .before .before .before .before .before .before .before .before .before .loop .inv .0, c .before .before .before .before .before .before .before .before .before .before .before .loop .inv .1, c .before .before .before .before .before .before .before .before .before .before .loop-test .taken)
 
 with-hot-requires-3 : tie.Need-with-hot-requires-3 Inv-loop μ-loop
 unfolding vehicleKm
@@ -283,15 +283,23 @@ sums-with-spec =
     Inv-loop
     μ-loop
     fuel-of-requires
-    mul-t22
+    mul-t24
     factors-of-requires
     loop-holds
     mul-b
     mul-b-2
     add-b
-    mul-e
-    mul-e-2
-    array-read-e
+    mul-urban
+    mul-urban-2
+    array-read-urban
+    mul-rural
+    add-rural
+    mul-rural-2
+    array-read-rural
+    mul-highway
+    add-highway
+    mul-highway-2
+    array-read-highway
     mul-cold-rate
     add-cold-rate
     mul-cold-rate-2
@@ -308,21 +316,13 @@ sums-with-spec =
     add-with-hot-2
     mul-with-hot-4
     element-copy-out-with-hot-4
-    mul-with-hot-5
-    add-with-hot-3
-    mul-with-hot-6
-    array-read-with-hot
     with-hot-requires-2
-    add-with-hot-4
-    mul-with-hot-7
+    add-with-hot-3
+    mul-with-hot-5
     element-copy-out-with-hot-5
-    add-with-hot-5
-    mul-with-hot-8
+    add-with-hot-4
+    mul-with-hot-6
     element-copy-out-with-hot-6
-    mul-with-hot-9
-    add-with-hot-6
-    mul-with-hot-10
-    array-read-with-hot-2
     with-hot-requires-3
     add-with-cold
     mul-with-cold
