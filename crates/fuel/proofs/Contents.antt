@@ -1,13 +1,17 @@
 -- The grounds of a question for grams from fuel. Assumes nothing.
 use mathlib.Core.Path.{_≡_, refl, sym}
 use mathlib.Core.Bool.{true, false}
-use Prim.Native.Nat.{ℕ, _≤_, _<_}
+use Prim.Native.Nat.{ℕ, _+_, _*_, _≤_, _<_}
+use native.Mathlib.Nat.{mul-le-mul}
+use native.Mathlib.Omega.{arith}
 use borrow.Author.Tests.{lt-ltb, le-ltb, ltb-false, not-false}
 use Rattle.units.specs.Grounds.{firstFit, outside}
+use Rattle.units.specs.Rounding.{halfUp}
 use Rattle.units.proofs.Grounds.{passed}
 use Rattle.units.proofs.Tests.{inside-low, inside-high}
 use Rattle.inventory.specs.declared.Run.{Run}
 use Rattle.inventory.specs.Order.{inOrder}
+use Rattle.inventory.specs.Printed.{answered}
 use Rattle.fuel.specs.FromFuel.{contentGrounds}
 
 module _ (run : Run) (fuel limit content : ℕ) where
@@ -45,3 +49,15 @@ contained run fuel limit content z =
       fuel-high = inside-high 1 3 fuel (p .1 .0);
       content-high = ltb-false limit content (p .1 .1 .0);
     }
+
+-- the numbers of a formula stay small within the limit of the content
+pub sized : (limit content a b c d : ℕ) → content ≤ limit → a + b * limit ≤ 4 * c → c + d * limit ≤ 20000000
+    → (a + b * content ≤ 4 * c) × (c + d * content ≤ 20000000)
+sized limit content a b c d h up down =
+    let p : b * content ≤ b * limit = mul-le-mul (omega arith) h in
+    let q : d * content ≤ d * limit = mul-le-mul (omega arith) h in
+    (omega arith, omega arith)
+
+-- the same answer, its two numbers written otherwise
+pub by-numbers : (n f p q d e : ℕ) → p ≡ q → d ≡ e → answered n (halfUp (p * f) d) ≡ answered n (halfUp (q * f) e)
+by-numbers n f p q d e h k = rw (h, k)

@@ -272,8 +272,9 @@ pub fn kms_with(km: [VehicleKm; 3], rec: Record) -> [VehicleKm; 3]
 {
     let mut r = km;
     let fuel = factors::fuel_of(rec.class);
+    let k = VehicleKm(rec.vehicles * rec.km);
     let m = r[fuel];
-    let m = VehicleKm(m.0 + rec.vehicles * rec.km);
+    let m = VehicleKm(m.0 + k.0);
     r[fuel] = m;
     r
 }
