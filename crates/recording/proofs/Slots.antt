@@ -2,7 +2,7 @@
 use mathlib.Core.Path.{_≡_, refl, ap, sym, _∙_}
 use mathlib.Core.Bool.{cond}
 use mathlib.Core.List.{List}
-use Prim.Native.Nat.{ℕ, _+_, _*_, _≤_, _<_}
+use Prim.Native.Nat.{ℕ, _+_, _*_, _/_, _%_, _≤_, _<_}
 use native.Mathlib.Omega.{arith}
 use lib.ListN.{getD}
 use Rattle.units.specs.declared.Grams.{Grams}
@@ -31,7 +31,7 @@ module _ (rec : Record) (f : List ℕ) (given : Factors rec f) (q : ℕ) (hq : q
   factor-is : (road i : ℕ) → road < 3 → i ≡ q * 3 + road → getD f i 0 ≡ factorOf rec q road
   factor-is road i h e = factor-read (rec .class) (speedOf rec 0) (speedOf rec 1) (speedOf rec 2) f q road i given hq h e
 
-  pub factor-small : RecordLimits rec → (road i : ℕ) → road < 3 → i ≡ q * 3 + road → getD f i 0 ≤ 2000000000
+  factor-small : RecordLimits rec → (road i : ℕ) → road < 3 → i ≡ q * 3 + road → getD f i 0 ≤ 2000000000
   factor-small lim road i h e = rw (factor-is road i h e) (factor-high rec lim q road hq h)
 
   module _ (run : Run) (fuel : ℕ) (ef : fuel ≡ fuelOf (rec .class)) where
@@ -54,6 +54,10 @@ module _ (rec : Record) (f : List ℕ) (given : Factors rec f) (q : ℕ) (hq : q
         → s ≡ billionths (gramsIn run j * 1000000000 + restIn run j + rec .vehicles * rec .km * c * 100) → s ≡ slotAfter run rec j
     unfolding slotAfter vehicleKm
     cold-made j c s ej ec e = e ∙ ap billionths (rw (rate-is c ec) (cold-slot run rec fuel q ef hq j ej))
+
+-- each of the 15 factors is small
+pub factor-most : (rec : Record) (f : List ℕ) → Factors rec f → RecordLimits rec → (i : ℕ) → i < 15 → getD f i 0 ≤ 2000000000
+factor-most rec f given lim i h = factor-small rec f given (i / 3) (omega arith) lim (i % 3) i (omega arith) (omega arith)
 
 -- ---- a sum that is not written yet is that of the old run
 

@@ -7,7 +7,7 @@ use Rattle.factors.specs.Factors.{fuelOf}
 use Rattle.inventory.specs.Records.{vehicleKm}
 use Rattle.inventory.specs.Adding.{gramsAfter, restAfter, slotAfter}
 use Rattle.recording.specs.Parts.{ofSums}
-use Rattle.recording.proofs.Slots.{fuel-most, factor-small, rate-small, hot-made, cold-made, above-grams, slot-small}
+use Rattle.recording.proofs.Slots.{fuel-most, factor-most, rate-small, hot-made, cold-made, above-grams, slot-small}
 use Rattle.recording.proofs.Made.{made}
 use borrow.Author.Needs.{needs}
 use Rattle.recording.proofs.sums_with.Statement.{statement}
@@ -90,7 +90,7 @@ element-copy-out-cold-rate : tie.Need-element-copy-out-cold-rate Inv-loop μ-loo
 element-copy-out-cold-rate c = search needs
 
 cold-rate-requires : tie.Need-cold-rate-requires Inv-loop μ-loop
-cold-rate-requires c κs = let s = c .before .before .before .before .before .before .before in let l = c .before .before .loop in let h = c .before .loop-test .taken in let fuel = c .before .before .before .before .before .fuel-of .result in (factor-small (s .args .rec) _ (c .before .before .before .factors-of .ensures) (l .q) h (s .pre .0) 0 (l .q * 3) (omega arith) (omega arith), s .pre .1 .0 .x-most (fuel * 5 + l .q) (omega (arith, l .inv .0, l .inv .1, h)))
+cold-rate-requires c κs = let s = c .before .before .before .before .before .before .before in let l = c .before .before .loop in let h = c .before .loop-test .taken in let fuel = c .before .before .before .before .before .fuel-of .result in (factor-most (s .args .rec) _ (c .before .before .before .factors-of .ensures) (s .pre .0) _ (omega (arith, l .inv .0, h)), s .pre .1 .0 .x-most _ (omega (arith, l .inv .0, l .inv .1, h)))
 
 mul-with-hot : tie.Need-mul-with-hot Inv-loop μ-loop
 mul-with-hot c = omega (arith, c .before .before .before .loop .inv .0, c .before .before .before .loop .inv .1, c .before .before .loop-test .taken)
@@ -106,7 +106,7 @@ element-copy-out-with-hot-2 c = omega (arith, c .before .before .before .before 
 
 with-hot-requires : tie.Need-with-hot-requires Inv-loop μ-loop
 unfolding vehicleKm
-with-hot-requires c κs = let s = c .before .before .before .before .before .before .before .before .before .before in let l = c .before .before .before .before .before .loop in let h = c .before .before .before .before .loop-test .taken in let fuel = c .before .before .before .before .before .before .before .before .fuel-of .result in (slot-small (s .pre .1 .0) (l .inv .2) (l .inv .3) (fuel * 20 + l .q * 4) (omega (arith, l .inv .0, l .inv .1, h)) (omega (arith, l .inv .0, l .inv .1, h)), (s .pre .0 .distance, s .pre .0 .share 0 (omega arith), factor-small (s .args .rec) _ (c .before .before .before .before .before .before .factors-of .ensures) (l .q) h (s .pre .0) 0 (l .q * 3) (omega arith) (omega arith)))
+with-hot-requires c κs = let s = c .before .before .before .before .before .before .before .before .before .before in let l = c .before .before .before .before .before .loop in let h = c .before .before .before .before .loop-test .taken in let fuel = c .before .before .before .before .before .before .before .before .fuel-of .result in (slot-small (s .pre .1 .0) (l .inv .2) (l .inv .3) (fuel * 20 + l .q * 4) (omega (arith, l .inv .0, l .inv .1, h)) (omega (arith, l .inv .0, l .inv .1, h)), (s .pre .0 .distance, s .pre .0 .share 0 (omega arith), factor-most (s .args .rec) _ (c .before .before .before .before .before .before .factors-of .ensures) (s .pre .0) _ (omega (arith, l .inv .0, h))))
 
 add-with-hot : tie.Need-add-with-hot Inv-loop μ-loop
 add-with-hot c = omega (arith, c .before .before .before .before .before .before .loop .inv .0, c .before .before .before .before .before .before .loop .inv .1, c .before .before .before .before .before .loop-test .taken)
@@ -128,7 +128,7 @@ element-copy-out-with-hot-4 c = omega (arith, c .before .before .before .before 
 
 with-hot-requires-2 : tie.Need-with-hot-requires-2 Inv-loop μ-loop
 unfolding vehicleKm
-with-hot-requires-2 c κs = let s = c .before .before .before .before .before .before .before .before .before .before .before .before .before in let l = c .before .before .before .before .before .before .before .before .loop in let h = c .before .before .before .before .before .before .before .loop-test .taken in let fuel = c .before .before .before .before .before .before .before .before .before .before .before .fuel-of .result in (slot-small (s .pre .1 .0) (l .inv .2) (l .inv .3) (fuel * 20 + l .q * 4 + 1) (omega (arith, l .inv .0, l .inv .1, h)) (omega (arith, l .inv .0, l .inv .1, h)), (s .pre .0 .distance, s .pre .0 .share 1 (omega arith), factor-small (s .args .rec) _ (c .before .before .before .before .before .before .before .before .before .factors-of .ensures) (l .q) h (s .pre .0) 1 (l .q * 3 + 1) (omega arith) (omega arith)))
+with-hot-requires-2 c κs = let s = c .before .before .before .before .before .before .before .before .before .before .before .before .before in let l = c .before .before .before .before .before .before .before .before .loop in let h = c .before .before .before .before .before .before .before .loop-test .taken in let fuel = c .before .before .before .before .before .before .before .before .before .before .before .fuel-of .result in (slot-small (s .pre .1 .0) (l .inv .2) (l .inv .3) (fuel * 20 + l .q * 4 + 1) (omega (arith, l .inv .0, l .inv .1, h)) (omega (arith, l .inv .0, l .inv .1, h)), (s .pre .0 .distance, s .pre .0 .share 1 (omega arith), factor-most (s .args .rec) _ (c .before .before .before .before .before .before .before .before .before .factors-of .ensures) (s .pre .0) _ (omega (arith, l .inv .0, h))))
 
 add-with-hot-3 : tie.Need-add-with-hot-3 Inv-loop μ-loop
 add-with-hot-3 c = omega (arith, c .before .before .before .before .before .before .before .before .before .loop .inv .0, c .before .before .before .before .before .before .before .before .before .loop .inv .1, c .before .before .before .before .before .before .before .before .loop-test .taken)
@@ -150,7 +150,7 @@ element-copy-out-with-hot-6 c = omega (arith, c .before .before .before .before 
 
 with-hot-requires-3 : tie.Need-with-hot-requires-3 Inv-loop μ-loop
 unfolding vehicleKm
-with-hot-requires-3 c κs = let s = c .before .before .before .before .before .before .before .before .before .before .before .before .before .before .before .before in let l = c .before .before .before .before .before .before .before .before .before .before .before .loop in let h = c .before .before .before .before .before .before .before .before .before .before .loop-test .taken in let fuel = c .before .before .before .before .before .before .before .before .before .before .before .before .before .before .fuel-of .result in (slot-small (s .pre .1 .0) (l .inv .2) (l .inv .3) (fuel * 20 + l .q * 4 + 2) (omega (arith, l .inv .0, l .inv .1, h)) (omega (arith, l .inv .0, l .inv .1, h)), (s .pre .0 .distance, s .pre .0 .share 2 (omega arith), factor-small (s .args .rec) _ (c .before .before .before .before .before .before .before .before .before .before .before .before .factors-of .ensures) (l .q) h (s .pre .0) 2 (l .q * 3 + 2) (omega arith) (omega arith)))
+with-hot-requires-3 c κs = let s = c .before .before .before .before .before .before .before .before .before .before .before .before .before .before .before .before in let l = c .before .before .before .before .before .before .before .before .before .before .before .loop in let h = c .before .before .before .before .before .before .before .before .before .before .loop-test .taken in let fuel = c .before .before .before .before .before .before .before .before .before .before .before .before .before .before .fuel-of .result in (slot-small (s .pre .1 .0) (l .inv .2) (l .inv .3) (fuel * 20 + l .q * 4 + 2) (omega (arith, l .inv .0, l .inv .1, h)) (omega (arith, l .inv .0, l .inv .1, h)), (s .pre .0 .distance, s .pre .0 .share 2 (omega arith), factor-most (s .args .rec) _ (c .before .before .before .before .before .before .before .before .before .before .before .before .factors-of .ensures) (s .pre .0) _ (omega (arith, l .inv .0, h))))
 
 add-with-cold : tie.Need-add-with-cold Inv-loop μ-loop
 add-with-cold c = omega (arith, c .before .before .before .before .before .before .before .before .before .before .before .before .loop .inv .0, c .before .before .before .before .before .before .before .before .before .before .before .before .loop .inv .1, c .before .before .before .before .before .before .before .before .before .before .before .loop-test .taken)
