@@ -1,25 +1,27 @@
 -- Laws of the cold starts: ranges of B, Q, X and the cold factor, and its distance from the factor without rounding.
 -- Assumes nothing.
 use mathlib.Core.Path.{_≡_, refl, sym, ap, _∙_, subst}
-use mathlib.Core.Bool.{Bool, true, false, not, cond, _&&_}
-use mathlib.Core.List.{List, [], _∷_}
+use mathlib.Core.Bool.{Bool, true, false, cond, _&&_}
+use mathlib.Core.List.{List, []}
 use Prim.Native.Nat.{ℕ, zero, suc, _+_, _*_, _-_, _/_, _%_, _≤_, _<_}
 use native.Mathlib.Nat.{mul-le-mul-left, mul-le-mul}
+use native.Mathlib.Numerals.{add-one}
 use native.Mathlib.Omega.{arith}
 use borrow.Author.Tests.{ltb-true}
 use lib.Dec.{T, eqb, eqb→eq, ltb, leb, leb→le, le→leb, ltb→lt, lit<}
 use lib.IntN.{ℤ, pos, negsuc, negℤ, natAbs, subℕ, negℤ-negℤ, _+ℤ_, _-ℤ_, _*ℤ_}
 use lib.ListN.{getD}
-use lib.Signed.{nonNeg, ltZ, leZ, leZ-yes, _≤ℤ_, pos-natAbs}
+use lib.Signed.{nonNeg, ltZ, leZ, leZ-yes, _≤ℤ_}
 use mir.Syntax.{w64}
 use mir.Val.{toZ, ofZ}
-use Rattle.units.specs.Lists.{sumTo, allBelow}
+use Rattle.units.specs.Lists.{tab, sumTo, allBelow}
 use Rattle.units.specs.Rounding.{halfUp}
 use Rattle.units.specs.Sizes.{Within}
+use Rattle.units.proofs.Tab.{tab-at}
 use Rattle.units.proofs.Tests.{at, computed, and-left, and-right, T-true, true-T}
 use Rattle.units.proofs.Rounds as rounds
 use Rattle.units.proofs.Signed.{Step, arg}
-use Rattle.coldstart.specs.ColdStart.{temperatureOk, coldShare, Slope, slope, slopes, pairs, SlopeLimits, slopeOf, coldRatio, orZero, coldExcess, monthProduct, monthAt, coldSum, coldDenominator, coldX, coldFactor, Climate}
+use Rattle.coldstart.specs.ColdStart.{temperatureOk, coldShare, Slope, slope, slopes, pairs, SlopeLimits, coldRatio, orZero, coldExcess, monthProduct, monthAt, coldSum, coldX, coldFactor, Climate, SmallSums, withMonth, xFrom}
 
 -- ---- differences of whole numbers
 
@@ -201,19 +203,34 @@ module _ (i : ℕ) (h : i < 15) where
       let b : getD (getD (pairs slopes) i []) 1 0 ≡ entry i .q = eqb→eq (getD (getD (pairs slopes) i []) 1 0) (entry i .q) (true-T (eqb (getD (getD (pairs slopes) i []) 1 0) (entry i .q)) (facts .1)) in
       rw e (λ j. slope (a j) (b j))
 
-  -- the sum over twelve months of the entry i, by fuel and quantity
-  pub sum-entry : (l : ℕ) (ts : List ℤ) → coldSum l ts (i / 5) (i % 5) ≡ sumTo (monthAt l (entry i) ts) 12
-  unfolding coldSum entry
-  sum-entry l ts = let e : i / 5 * 5 + i % 5 ≡ i = omega arith in ap (λ (n : ℕ). sumTo (monthAt l (getD slopes n (slope 0 0)) ts) 12) e
+-- ---- the sums over months, X and the cold factor
 
--- ---- the sum over twelve months, X and the cold factor
+-- the sum of the entry i over the first k months
+unfoldable pub sumsTo : ℕ → List ℤ → ℕ → ℕ → ℕ
+sumsTo l ts k i = sumTo (monthAt l (entry i) ts) k
+
+sums-most : (l : ℕ) (ts : List ℤ) → Climate l ts → (k i : ℕ) → k ≤ 12 → i < 15 → sumsTo l ts k i ≤ 58800000000000
+unfolding sumsTo
+sums-most l ts c k i hk hi =
+    omega (arith, rounds.sum-most (monthAt l (entry i) ts) 4874310000000 k (λ m h. month-most l (entry i) (getD ts m (pos 0)) (c .trip-low) (c .trip-high) (entry-limits i hi) (c .temperatures m (omega arith))))
+
+pub small-sums : (l : ℕ) (ts : List ℤ) → Climate l ts → (k : ℕ) (sums : List ℕ) → k ≤ 12 → sums ≡ tab (sumsTo l ts k) 15 → SmallSums sums
+small-sums l ts c k sums h e =
+    record { each = λ i b. rw (e, tab-at 0 (sumsTo l ts k) 15 i b) (sums-most l ts c k i h b) }
+
+-- one month more
+pub sums-more : (l : ℕ) (ts : List ℤ) (k : ℕ) → tab (withMonth (tab (sumsTo l ts k) 15) (natAbs (coldShare l (getD ts k (pos 0)))) (getD ts k (pos 0))) 15 ≡ tab (sumsTo l ts (k + 1)) 15
+unfolding tab sumsTo entry sumTo withMonth monthProduct
+sums-more l ts k = rw add-one refl
+
+-- twelve months make X
+pub sums-x : (l : ℕ) (ts : List ℤ) → tab (xFrom (tab (sumsTo l ts 12) 15)) 15 ≡ tab (coldX l ts) 15
+unfolding tab sumsTo entry xFrom coldX coldSum
+sums-x l ts = refl
 
 pub sum-most : (l : ℕ) (ts : List ℤ) → Climate l ts → (f q : ℕ) → f < 3 → q < 5 → coldSum l ts f q ≤ 58800000000000
-unfolding coldSum entry
-sum-most l ts c f q hf hq =
-    let s = slopeOf f q in
-    let g : SlopeLimits s = entry-limits (f * 5 + q) (omega arith) in
-    omega (arith, rounds.sum-most (monthAt l s ts) 4874310000000 12 (λ k h. month-most l s (getD ts k (pos 0)) (c .trip-low) (c .trip-high) g (c .temperatures k h)))
+unfolding coldSum sumsTo entry
+sum-most l ts c f q hf hq = sums-most l ts c 12 (f * 5 + q) (omega arith) (omega arith)
 
 -- document 01: each X is at most 4,900,000,000
 pub x-most : (l : ℕ) (ts : List ℤ) → Climate l ts → (i : ℕ) → i < 15 → coldX l ts i ≤ 4900000000

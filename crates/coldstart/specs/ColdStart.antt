@@ -94,3 +94,17 @@ pub record Climate (l : ℕ) (ts : List ℤ) : Type 0 where
   pub trip-low : 10 ≤ l
   pub trip-high : l ≤ 200
   pub temperatures : (k : ℕ) → k < 12 → temperatureOk (getD ts k (pos 0)) ≡ true
+
+-- ---- the 15 sums of the code, which adds a month to all of them at a time
+
+-- sums over at most twelve months: they and one month more stay in 64 bits
+pub record SmallSums (sums : List ℕ) : Type 0 where
+  pub each : (i : ℕ) → i < 15 → getD sums i 0 ≤ 58800000000000
+
+-- the sum of the entry i with a month of the share b and the temperature t
+unfoldable pub withMonth : List ℕ → ℕ → ℤ → ℕ → ℕ
+withMonth sums b t i = getD sums i 0 + b * coldExcess (getD slopes i (slope 0 0)) t
+
+-- X of the entry i from the sums over twelve months
+unfoldable pub xFrom : List ℕ → ℕ → ℕ
+xFrom sums i = halfUp (getD sums i 0) coldDenominator

@@ -3,9 +3,8 @@ ghost use mathlib.Core.Path.{_≡_};
 ghost use mathlib.Core.Bool.{true};
 ghost use Prim.Native.Nat.{_≤_};
 ghost use lib.IntN.{natAbs};
-ghost use Rattle.units.specs.Lists.{tab, sumTo};
-ghost use Rattle.units.specs.Rounding.{halfUp};
-ghost use Rattle.coldstart.specs.ColdStart.{Climate, coldDenominator, coldExcess, coldFactor, coldShare, coldX, SlopeLimits, monthAt, pairs, slope, slopes, temperatureOk};
+ghost use Rattle.units.specs.Lists.{tab};
+ghost use Rattle.coldstart.specs.ColdStart.{Climate, coldExcess, coldFactor, coldShare, coldX, SlopeLimits, SmallSums, pairs, slope, slopes, temperatureOk, withMonth, xFrom};
 
 // Whether a temperature is from -300 to 400 tenths of a degree.
 pub fn temperature_ok(t: i64) -> bool
@@ -61,31 +60,43 @@ fn cold_excess(p: u64, q: u64, t: i64) -> u64
     x as u64
 }
 
-// X of one entry: the sum over twelve months, half up.
-fn cold_x(l: u64, p: u64, q: u64, temps: &[i64; 12]) -> u64
-    requires { ⌜ Climate l (now temps) × SlopeLimits (slope p q) ⌝ }
-    ensures { λ r. ⌜ r ≡ halfUp (sumTo (monthAt l (slope p q) (now (temps .entry))) 12) coldDenominator ⌝ }
+// The 15 sums with a month of the share b and the temperature t.
+fn with_month(table: &[[u64; 2]; 15], sums: [u64; 15], b: u64, t: i64) -> [u64; 15]
+    requires { ⌜ (now table ≡ pairs slopes) × SmallSums sums × (b ≤ 100000000) × (temperatureOk t ≡ true) ⌝ }
+    ensures { λ r. ⌜ r ≡ tab (withMonth sums b t) 15 ⌝ }
 {
-    let mut sum: u64 = 0;
-    for k in 0..12 {
-        let t = temps[k];
-        sum += cold_share(l, t) * cold_excess(p, q, t);
+    let mut r = sums;
+    for i in 0..15 {
+        r[i] = r[i] + b * cold_excess(table[i][0], table[i][1], t);
     }
-    (sum + 6000) / 12000
+    r
 }
 
-// The 15 values X from the table.
+// The 15 values X of the sums over twelve months, half up.
+fn rounded(sums: [u64; 15]) -> [u64; 15]
+    requires { ⌜ SmallSums sums ⌝ }
+    ensures { λ r. ⌜ r ≡ tab (xFrom sums) 15 ⌝ }
+{
+    let mut x = [0u64; 15];
+    for i in 0..15 {
+        x[i] = (sums[i] + 6000) / 12000;
+    }
+    x
+}
+
+// The 15 values X from the table: months outside, so that the share is computed once for each.
 fn values_of(table: &[[u64; 2]; 15], l: u64, temps: &[i64; 12]) -> [u64; 15]
     requires { ⌜ (now table ≡ pairs slopes) × Climate l (now temps) ⌝ }
     ensures { λ r. ⌜ r ≡ tab (coldX l (now (temps .entry))) 15 ⌝ }
 {
-    let mut x = [0u64; 15];
-    for i in 0..15 {
-        let p = table[i][0];
-        let q = table[i][1];
-        x[i] = cold_x(l, p, q, temps);
+    let mut sums = [0u64; 15];
+    for k in 0..12 {
+        let t = temps[k];
+        // A local of its own: the prover takes no call that writes the array that it reads.
+        let next = with_month(table, sums, cold_share(l, t), t);
+        sums = next;
     }
-    x
+    rounded(sums)
 }
 
 // The 15 values X of a head: for each fuel CO, NOX, VOC, PM, FC.

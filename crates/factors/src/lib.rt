@@ -1,9 +1,11 @@
 // Hot emission factors: one constant table of signed coefficients, and the 15 factors of a record.
 ghost use mathlib.Core.Path.{_≡_};
 ghost use mathlib.Core.List.{[], _∷_};
+ghost use Prim.Native.Nat.{_+_, _≤_};
 ghost use lib.IntN.{natAbs};
+ghost use lib.ListN.{getD};
 ghost use Rattle.units.specs.Lists.{tab};
-ghost use Rattle.factors.specs.Factors.{coefficients, Driven, Small, factorAt, fuelOf, hasCold, quadratic};
+ghost use Rattle.factors.specs.Factors.{Driven, Small, SmallRows, curvesOf, factorAt, fuelOf, hasCold, quadratic, valueAt};
 use units::Speed;
 
 // The coefficients of V², V and 1: for each class CO, NOX, VOC, PM, FC. Class 5 has no curve.
@@ -96,25 +98,46 @@ fn value_at(a: i64, b: i64, c: i64, v: u64) -> u64
     ((a * s + b) * s + c) as u64
 }
 
-// The 15 factors of a class with curves, from the table.
-fn curve_factors(
-    t: &[[i64; 3]; 35],
-    class: u64,
-    urban: Speed,
-    rural: Speed,
-    highway: Speed,
-) -> [u64; 15]
-    requires { ⌜ (now t ≡ coefficients) × (class ≡ 5 → ⊥) ⌝ }
-    requires { ⌜ Driven class (urban .0) × Driven class (rural .0) × Driven class (highway .0) ⌝ }
-    ensures { λ r. ⌜ r ≡ tab (factorAt class (urban .0) (rural .0) (highway .0)) 15 ⌝ }
+// Five rows of the table from the given one on.
+fn curves_at(t: &[[i64; 3]; 35], first: usize) -> [[i64; 3]; 5]
+    requires { ⌜ first ≤ 30 ⌝ }
+    ensures { λ r. ⌜ r ≡ tab (λ q. getD (now (t .entry)) (first + q) []) 5 ⌝ }
 {
-    let first = (class as usize - 1) * 5;
+    let a = t[first];
+    let b = t[first + 1];
+    let c = t[first + 2];
+    let d = t[first + 3];
+    let e = t[first + 4];
+    [a, b, c, d, e]
+}
+
+// The curves of a class: the table is named here and read at constant places, so that the compiler does not build it at each call.
+fn curves_of(class: u64) -> [[i64; 3]; 5]
+    requires { ⌜ (1 ≤ class) × (class ≤ 7) × (class ≡ 5 → ⊥) ⌝ }
+    ensures { λ r. ⌜ r ≡ curvesOf class ⌝ }
+{
+    let t = &CURVES;
+    match class {
+        1 => curves_at(t, 0),
+        2 => curves_at(t, 5),
+        3 => curves_at(t, 10),
+        4 => curves_at(t, 15),
+        6 => curves_at(t, 25),
+        _ => curves_at(t, 30),
+    }
+}
+
+// The 15 values of five curves: each road at its own speed.
+fn curve_factors(t: &[[i64; 3]; 5], urban: Speed, rural: Speed, highway: Speed) -> [u64; 15]
+    requires { ⌜ SmallRows (now t) (urban .0) × SmallRows (now t) (rural .0) × SmallRows (now t) (highway .0) ⌝ }
+    ensures { λ r. ⌜ r ≡ tab (valueAt (now (t .entry)) (urban .0) (rural .0) (highway .0)) 15 ⌝ }
+{
     let mut f = [0u64; 15];
     let mut q: usize = 0;
     while q < 5 {
-        let a = t[first + q][0];
-        let b = t[first + q][1];
-        let c = t[first + q][2];
+        let a = t[q][0];
+        let b = t[q][1];
+        let c = t[q][2];
         f[q * 3] = value_at(a, b, c, urban.0);
         f[q * 3 + 1] = value_at(a, b, c, rural.0);
         f[q * 3 + 2] = value_at(a, b, c, highway.0);
@@ -131,5 +154,6 @@ pub fn factors_of(class: u64, urban: Speed, rural: Speed, highway: Speed) -> [u6
     if class == 5 {
         return TWO_STROKE;
     }
-    curve_factors(&CURVES, class, urban, rural, highway)
+    let t = curves_of(class);
+    curve_factors(&t, urban, rural, highway)
 }

@@ -1,76 +1,67 @@
 -- `coldstart::values_of` meets its contract. Assumes nothing.
-use mathlib.Core.Path.{_≡_, refl, sym, ap, subst, _∙_}
-use Prim.Native.Nat.{ℕ, _≤_, _<_, _*_, _-_, _+_}
+use mathlib.Core.Path.{_≡_, refl, ap, _∙_}
+use Prim.Native.Nat.{_≤_, _-_}
 use native.Mathlib.Omega.{arith}
+use lib.IntN.{pos, natAbs}
 use lib.ListN.{getD}
-use Rattle.units.specs.Lists.{sumTo}
-use Rattle.units.specs.Rounding.{halfUp}
-use Rattle.units.proofs.Tab.{Filled, filled-none, filled-more, filled}
-use Rattle.coldstart.specs.ColdStart.{Slope, SlopeLimits, monthAt, coldDenominator, coldX}
-use Rattle.coldstart.proofs.ColdStart.{entry-limits, entry-read, sum-entry}
+use Rattle.units.specs.Lists.{tab, sumTo}
+use Rattle.coldstart.specs.ColdStart.{coldShare, withMonth, xFrom}
+use Rattle.coldstart.proofs.ColdStart.{read, read-ok, share-whole, small-sums, sumsTo, sums-more, sums-x}
 use Rattle.coldstart.proofs.values_of.Statement.{statement}
 use Rattle.coldstart.proofs.values_of.Tie as tie
 
 abbrev Inv-loop : tie.InvT-loop
-Inv-loop table l temps x₀ i₀ x i = (i ≤ 15) × Filled (coldX l temps) 15 x i
+Inv-loop table l temps sums₀ k₀ sums k = (k ≤ 12) × (sums ≡ tab (sumsTo l temps k) 15)
 
 abbrev μ-loop : tie.MeasureT-loop
-μ-loop table l temps x₀ i₀ x i = 15 - i
+μ-loop table l temps sums₀ k₀ sums k = 12 - k
 
 loop-holds : tie.Need-loop-holds Inv-loop μ-loop
-loop-holds c = (omega arith, filled-none _ _ _ refl)
+unfolding tab sumsTo sumTo
+loop-holds c = (omega arith, refl)
 
-mul-p : tie.Need-mul-p Inv-loop μ-loop
-mul-p c = omega arith
+mul-t : tie.Need-mul-t Inv-loop μ-loop
+mul-t c = omega arith
 
-index-1-p : tie.Need-index-1-p Inv-loop μ-loop
-index-1-p c = omega arith
+element-copy-out-t : tie.Need-element-copy-out-t Inv-loop μ-loop
+element-copy-out-t c = omega arith
 
-index-2-p : tie.Need-index-2-p Inv-loop μ-loop
-index-2-p c = omega arith
+cold-share-requires : tie.Need-cold-share-requires Inv-loop μ-loop
+cold-share-requires c κs =
+    let w = c .before .before .before .pre .1 in
+    (w .trip-low, w .trip-high, read-ok _ (w .temperatures (c .before .before .loop .k) (omega arith)))
 
-mul-q : tie.Need-mul-q Inv-loop μ-loop
-mul-q c = omega arith
-
-index-1-q : tie.Need-index-1-q Inv-loop μ-loop
-index-1-q c = omega arith
-
-index-2-q : tie.Need-index-2-q Inv-loop μ-loop
-index-2-q c = omega arith
-
-cold-x-requires : tie.Need-cold-x-requires Inv-loop μ-loop
-cold-x-requires c κs =
+with-month-requires : tie.Need-with-month-requires Inv-loop μ-loop
+with-month-requires c κs =
     let s = c .before .before .before .before in
-    let i = c .before .before .before .loop .i in
-    let h : i < 15 = omega arith in
-    (s .pre .1, subst SlopeLimits (sym (entry-read i h (s .args .table .now) (s .pre .0))) (entry-limits i h))
+    let w = s .pre .1 in
+    let k = c .before .before .before .loop .k in
+    let ok = read-ok _ (w .temperatures k (omega arith)) in
+    (s .pre .0, small-sums _ _ w k _ (omega arith) (c .before .before .before .loop .inv .1), omega (arith, c .cold-share .ensures, share-whole (s .args .l) (w .trip-low) (w .trip-high) _ ok .most), ok)
 
-mul-x : tie.Need-mul-x Inv-loop μ-loop
-mul-x c = omega arith
-
-array-write-x : tie.Need-array-write-x Inv-loop μ-loop
-array-write-x c = omega arith
-
-add-i : tie.Need-add-i Inv-loop μ-loop
-add-i c = omega arith
+add-k : tie.Need-add-k Inv-loop μ-loop
+add-k c = omega arith
 
 loop-less : tie.Need-loop-less Inv-loop μ-loop
 loop-less c = omega arith
 
 loop-again : tie.Need-loop-again Inv-loop μ-loop
-unfolding coldX
 loop-again c =
     let s = c .before .before .before .before .before in
-    let i = c .before .before .before .before .loop .i in
-    let h : i < 15 = omega arith in
-    let v =
-    c .cold-x .ensures ∙ ap (λ g. halfUp (sumTo (monthAt (s .args .l) g (s .args .temps .now)) 12) coldDenominator) (entry-read i h (s .args .table .now) (s .pre .0)) ∙
-    sym (ap (λ n. halfUp n coldDenominator) (sum-entry i h (s .args .l) (s .args .temps .now)))
-    in
-    (omega arith, filled-more _ (c .before .before .before .before .loop .inv .1) h v)
+    let k = c .before .before .before .before .loop .k in
+    let t = getD (s .args .temps .now) k (pos 0) in
+    let r = read t (s .pre .1 .temperatures k (omega arith)) in
+    let b = c .before .cold-share .ensures ∙ ap (λ z. natAbs (coldShare (s .args .l) z)) r in
+    (omega arith, c .with-month .ensures ∙ (λ j. tab (withMonth (c .before .before .before .before .loop .inv .1 j) (b j) (r j)) 15) ∙ sums-more _ _ k)
+
+rounded-requires : tie.Need-rounded-requires Inv-loop μ-loop
+rounded-requires c κs = small-sums _ _ (c .before .before .pre .1) (c .before .loop .k) _ (omega arith) (c .before .loop .inv .1)
 
 returns : tie.Need-returns Inv-loop μ-loop
-returns c = filled (c .before .loop .inv .1) (omega arith) (omega arith)
+returns c =
+    let s = c .before .before .before in
+    let last : c .before .before .loop .k ≡ 12 = omega arith in
+    c .rounded .ensures ∙ ap (λ y. tab (xFrom y) 15) (c .before .before .loop .inv .1 ∙ ap (λ k. tab (sumsTo (s .args .l) (s .args .temps .now) k) 15) last) ∙ sums-x _ _
 
 pub values-of-spec : {M : Type 1} → statement M
 values-of-spec =
@@ -79,16 +70,12 @@ values-of-spec =
     Inv-loop
     μ-loop
     loop-holds
-    mul-p
-    index-1-p
-    index-2-p
-    mul-q
-    index-1-q
-    index-2-q
-    cold-x-requires
-    mul-x
-    array-write-x
-    add-i
+    mul-t
+    element-copy-out-t
+    cold-share-requires
+    with-month-requires
+    add-k
     loop-less
     loop-again
+    rounded-requires
     returns)
