@@ -136,6 +136,7 @@ module _ (head : Head) (taken : openNumber head ≡ 0) where
         order =
             λ recs others same.
             record {
+              totals = λ fuel quantity. ap (λ run. totalOf run fuel quantity) (same-run recs others same);
               answer = λ buffer. ap (λ run. reportOf run buffer) (same-run recs others same);
               bytes = λ buffer. ap (λ run. reportBuffer run buffer) (same-run recs others same);
             };

@@ -53,8 +53,9 @@ pub record ListClaim (run : Run) (reference : Reference) : Type 0 where
 abbrev pub SameAccepted : List Record → List Record → Type 0
 SameAccepted recs others = (rec : Record) → occurs rec (accepted recs) ≡ occurs rec (accepted others)
 
--- the same answer and, in buffers that were alike before, the same bytes
+-- the same answer and, in buffers that were alike before, the same bytes; and the same totals
 pub record SameReport (a b : Run) : Type 0 where
+  pub totals : (fuel quantity : ℕ) → totalOf a fuel quantity ≡ totalOf b fuel quantity
   pub answer : (buffer : List ℕ) → reportOf a buffer ≡ reportOf b buffer
   pub bytes : (buffer : List ℕ) → reportBuffer a buffer ≡ reportBuffer b buffer
 

@@ -3,10 +3,10 @@
 use Prim.Native.Nat.{ℕ}
 use mathlib.Core.Path.{_≡_}
 use mathlib.Core.List.{List, [], _∷_}
-use lib.IntN.{ℤ, pos, natAbs}
+use lib.IntN.{ℤ, pos}
 use lib.ListN.{replicate}
 use Rattle.factors.specs.Factors.{emissionFactor}
-use Rattle.coldstart.specs.ColdStart.{coldShare, coldX, coldFactor}
+use Rattle.coldstart.specs.ColdStart.{coldShare, orZero, coldX, coldFactor}
 use Rattle.inventory.specs.declared.Head.{Head}
 use Rattle.inventory.specs.declared.Record.{Record}
 use Rattle.inventory.specs.declared.Run.{Run}
@@ -44,7 +44,7 @@ figure g p = record { given = g; printed = p }
 unfoldable pub figures : List Figure
 figures =
     -- B at L 120, T 100
-    figure (natAbs (coldShare 120 (pos 100))) 29580000
+    figure (orZero (coldShare 120 (pos 100))) 29580000
     -- X of gasoline there: CO, NOX, VOC, FC
     ∷ figure (coldX 120 (replicate 12 (pos 100)) 0) 532440000
     ∷ figure (coldX 120 (replicate 12 (pos 100)) 1) 23664000

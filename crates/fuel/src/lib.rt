@@ -27,10 +27,11 @@ pub enum Balanced {
 }
 
 // k = S × 10^12 / F half up by long division, a digit for each of the twelve noughts; 0 where it is out of range.
-fn ratio_in_range(s: u64, f: u64) -> u64
-    requires { ⌜ (s ≤ 999999999) × ((0 < f) × (f ≤ 20000000000000000)) ⌝ }
-    ensures { λ r. ⌜ r ≡ ratioInRange s f ⌝ }
+fn ratio_in_range(s: u64, f: Grams) -> u64
+    requires { ⌜ (s ≤ 999999999) × ((0 < f .0) × (f .0 ≤ 20000000000000000)) ⌝ }
+    ensures { λ r. ⌜ r ≡ ratioInRange s (f .0) ⌝ }
 {
+    let f = f.0;
     let mut q = s / f;
     let mut r = s % f;
     let mut k: u64 = 0;
@@ -69,14 +70,14 @@ pub fn balance(run: Run, fuel: u64, quantity: u64, sold: u64) -> Balanced
     if 999999999 < sold {
         return Balanced::Refused(Refusal::SoldFuel);
     }
-    let k = ratio_in_range(sold, f.0);
+    let k = ratio_in_range(sold, f);
     if k == 0 {
         return Balanced::Refused(Refusal::SoldFuel);
     }
     let t = inventory::total_at(run, fuel as usize - 1, quantity as usize - 1);
     Balanced::Given(BalanceFigures {
         k,
-        grams: Grams(units::scaled(t.0, k, 1000000)),
+        grams: units::scaled(t, k, 1000000),
     })
 }
 
@@ -118,7 +119,7 @@ fn from_fuel(
         Verdict::Taken => {}
     }
     let f = inventory::total_at(run, fuel as usize - 1, 4);
-    Printed::Given(Grams(units::scaled(f.0, a + b * content, c + d * content)))
+    Printed::Given(units::scaled(f, a + b * content, c + d * content))
 }
 
 // CO2 of a fuel; hydrogen per carbon in thousandths.

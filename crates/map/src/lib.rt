@@ -5,6 +5,7 @@ ghost use Rattle.map.specs.Floats.{Exactly, AllExact};
 ghost use Rattle.map.specs.Map.{rowAnswer, rowOf, rowWhole, figureAnswer, figureOf, figureWhole, fieldOf};
 use inventory::Kind;
 use inventory::Run;
+use units::Grams;
 use units::Refusal;
 use units::Verdict;
 
@@ -36,11 +37,11 @@ pub enum FigureAnswer {
 }
 
 // Whole grams as a float, which loses nothing below 2^53.
-fn exact_float(n: u64) -> f64
-    requires { ⌜ n < 2 ^ 53 ⌝ }
-    ensures { λ x. ⌜ Exactly n x ⌝ }
+fn exact_float(g: Grams) -> f64
+    requires { ⌜ g .0 < 2 ^ 53 ⌝ }
+    ensures { λ x. ⌜ Exactly (g .0) x ⌝ }
 {
-    n as f64
+    g.0 as f64
 }
 
 // The field of a row for a kind.
@@ -73,10 +74,10 @@ pub fn row_of(run: Run, fuel: u64, quantity: u64) -> RowAnswer
     let h = inventory::kind_at(run, j + 2);
     let c = inventory::kind_at(run, j + 3);
     RowAnswer::Given(Row {
-        urban: exact_float(u.0),
-        rural: exact_float(r.0),
-        highway: exact_float(h.0),
-        cold: exact_float(c.0),
+        urban: exact_float(u),
+        rural: exact_float(r),
+        highway: exact_float(h),
+        cold: exact_float(c),
     })
 }
 

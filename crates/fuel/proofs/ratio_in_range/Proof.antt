@@ -24,10 +24,10 @@ rem-r c = omega arith
 
 loop-holds : tie.Need-loop-holds Inv-loop μ-loop
 unfolding noughts
-loop-holds c = (sym (div-add-mod' (c .args .s) (c .args .f)), (mod-lt (c .args .s) (c .pre .1 .0), (omega (arith, div-le-self (c .args .s) (c .args .f)), omega arith)))
+loop-holds c = (sym (div-add-mod' (c .args .s) (c .args .f .0)), (mod-lt (c .args .s) (c .pre .1 .0), (omega (arith, div-le-self (c .args .s) (c .args .f .0)), omega arith)))
 
 returns : tie.Need-returns Inv-loop μ-loop
-returns c = early (c .before .before .before .args .s) (c .before .before .before .args .f) (c .before .before .loop .k) (c .before .before .loop .q) (c .before .before .loop .r) (c .before .before .before .pre .1 .0) (c .before .before .loop .inv .1 .1 .1) (c .before .before .loop .inv .0) (c .if1 .taken)
+returns c = early (c .before .before .before .args .s) (c .before .before .before .args .f .0) (c .before .before .loop .k) (c .before .before .loop .q) (c .before .before .loop .r) (c .before .before .before .pre .1 .0) (c .before .before .loop .inv .1 .1 .1) (c .before .before .loop .inv .0) (c .if1 .taken)
 
 mul-t : tie.Need-mul-t Inv-loop μ-loop
 mul-t c = omega arith
@@ -39,7 +39,7 @@ div-q-2 : tie.Need-div-q-2 Inv-loop μ-loop
 div-q-2 c = omega arith
 
 add-q : tie.Need-add-q Inv-loop μ-loop
-add-q c = omega (arith, digit-below (c .before .before .loop .r) (c .before .before .before .args .f) (c .before .before .loop .inv .1 .0))
+add-q c = omega (arith, digit-below (c .before .before .loop .r) (c .before .before .before .args .f .0) (c .before .before .loop .inv .1 .0))
 
 rem-r-2 : tie.Need-rem-r-2 Inv-loop μ-loop
 rem-r-2 c = omega arith
@@ -54,8 +54,8 @@ loop-again : tie.Need-loop-again Inv-loop μ-loop
 loop-again c =
     let a = c .before .before .before .args in
     let l = c .before .before .loop in (
-      noughts-more (a .s) (l .k) ∙ digit (noughts (a .s) (l .k)) (l .q) (l .r) (a .f) (l .inv .0) (l .inv .1 .0),
-      (mod-lt (l .r * 10) (c .before .before .before .pre .1 .0), (omega (arith, digit-below (l .r) (a .f) (l .inv .1 .0)), omega arith)),
+      noughts-more (a .s) (l .k) ∙ digit (noughts (a .s) (l .k)) (l .q) (l .r) (a .f .0) (l .inv .0) (l .inv .1 .0),
+      (mod-lt (l .r * 10) (c .before .before .before .pre .1 .0), (omega (arith, digit-below (l .r) (a .f .0) (l .inv .1 .0)), omega arith)),
     )
 
 nearest-of-requires : tie.Need-nearest-of-requires Inv-loop μ-loop
@@ -70,8 +70,8 @@ returns-2 c =
     let a = c .before .before .before .before .before .args in
     let l = c .before .before .before .before .loop in
     let last : l .k ≡ 12 = omega arith in
-    let e : a .s * 1000000000000 ≡ l .q * a .f + l .r = sym (twelve (a .s)) ∙ ap (noughts (a .s)) (sym last) ∙ l .inv .0 in
-    let n : c .before .before .nearest-of .result ≡ balanceRatio (a .s) (a .f) = c .before .before .nearest-of .ensures ∙ sym (half-up-nearest (a .s * 1000000000000) (l .q) (l .r) (a .f) e (l .inv .1 .0)) in
+    let e : a .s * 1000000000000 ≡ l .q * a .f .0 + l .r = sym (twelve (a .s)) ∙ ap (noughts (a .s)) (sym last) ∙ l .inv .0 in
+    let n : c .before .before .nearest-of .result ≡ balanceRatio (a .s) (a .f .0) = c .before .before .nearest-of .ensures ∙ sym (half-up-nearest (a .s * 1000000000000) (l .q) (l .r) (a .f .0) e (l .inv .1 .0)) in
     rw (← n, sym (c .before .is-outside .ensures) ∙ c .if2 .taken)
 
 returns-3 : tie.Need-returns-3 Inv-loop μ-loop
@@ -80,8 +80,8 @@ returns-3 c =
     let a = c .before .before .before .before .before .args in
     let l = c .before .before .before .before .loop in
     let last : l .k ≡ 12 = omega arith in
-    let e : a .s * 1000000000000 ≡ l .q * a .f + l .r = sym (twelve (a .s)) ∙ ap (noughts (a .s)) (sym last) ∙ l .inv .0 in
-    let n : c .before .before .nearest-of .result ≡ balanceRatio (a .s) (a .f) = c .before .before .nearest-of .ensures ∙ sym (half-up-nearest (a .s * 1000000000000) (l .q) (l .r) (a .f) e (l .inv .1 .0)) in
+    let e : a .s * 1000000000000 ≡ l .q * a .f .0 + l .r = sym (twelve (a .s)) ∙ ap (noughts (a .s)) (sym last) ∙ l .inv .0 in
+    let n : c .before .before .nearest-of .result ≡ balanceRatio (a .s) (a .f .0) = c .before .before .nearest-of .ensures ∙ sym (half-up-nearest (a .s * 1000000000000) (l .q) (l .r) (a .f .0) e (l .inv .1 .0)) in
     rw (← n, sym (c .before .is-outside .ensures) ∙ c .if2 .left)
 
 pub ratio-in-range-spec : {M : Type 1} → statement M
