@@ -272,9 +272,10 @@ pub fn kms_with(km: [VehicleKm; 3], rec: Record) -> [VehicleKm; 3]
 {
     let mut r = km;
     let fuel = factors::fuel_of(rec.class);
-    let k = VehicleKm(rec.vehicles * rec.km);
+    let distance = rec.vehicles * rec.km;
     let m = r[fuel];
-    let m = VehicleKm(m.0 + k.0);
+    let sum = m.0 + distance;
+    let m = VehicleKm(sum);
     r[fuel] = m;
     r
 }
