@@ -166,12 +166,9 @@ pub extern "C" fn haldurap_add(run: Run, rec: Record) -> RunAnswer
 {
     let a = recording::add(run, rec);
     let v = a.verdict;
-    let n = units::verdict_number(v);
+    let number = units::verdict_number(v);
     let after = a.run;
-    RunAnswer {
-        number: n,
-        run: after,
-    }
+    RunAnswer { number, run: after }
 }
 
 #[no_mangle]
