@@ -17,7 +17,8 @@
      of range is refused by number. What the caller owes is C's own: pointers that are not null
      (also where the length is 0), memory of the stated length, a text that does not overlap the
      buffer.
-   - Where several grounds fit, the first in this order is given: 16, then 11, then ascending.
+   - Where several grounds fit, the first in this order is given: 16, then 11, then ascending. A
+     sheet is sent back by its first bad line, and in a line 10 comes before the others.
    - A run is plain data. It may be copied, compared by memcmp, stored and handed in again. It is
      tested for order on every call (16), so a damaged one is refused and not believed.
    - Later versions move the layout of a run. Compare haldurap_layout() with HALDURAP_LAYOUT and
