@@ -290,6 +290,14 @@ def rounding(c):
             c.say("report", 100)
 
 
+def below_half(c):
+    """A cold factor one unit below a half: class 3 NOX at 53 km/h, E × X ends in 499,999,999; K shows it as 100 g."""
+    c.open(50, [11] * 9 + [-160, 194, 78])
+    c.add((3, 1000000, 1000, (100, 0, 0), (53, 60, 100)))
+    c.say("kind", 1, 2, 3)
+    c.say("fields")
+
+
 def order(c):
     """Each condition of `in order` at its limit and one step over, asked through every call."""
     def probe(field, index, values, after):
@@ -421,7 +429,7 @@ def cases():
     """Every line of standard input."""
     c = Cases()
     for part in (example, grounds, head_limits, record_limits, several_wrong, questions, classes, warm, balances, rounding,
-                 order, full_runs, any_order, anything):
+                 below_half, order, full_runs, any_order, anything):
         part(c)
     return c.lines
 
