@@ -11,7 +11,7 @@ use Rattle.units.specs.Rounding.{halfUp}
 use Rattle.units.specs.Fractions.{Fraction, over, plus, WithinDistance}
 use Rattle.units.proofs.Rounds.{half-up-high, half-up-low}
 use Rattle.units.proofs.Fractions.{plus-same}
-use Rattle.factors.specs.Factors.{fuelOf}
+use Rattle.classes.specs.Classes.{fuelOf}
 use Rattle.inventory.specs.declared.Head.{Head}
 use Rattle.inventory.specs.declared.Record.{Record}
 use Rattle.inventory.specs.Records.{vehicleKm}

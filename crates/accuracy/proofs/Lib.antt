@@ -3,6 +3,6 @@ pub mod OneRecord
 pub mod Closed
 pub mod Distance
 pub mod Order
+pub mod Conditions
 pub mod Whole
-pub mod Worked
 pub mod Numbers

@@ -1,20 +1,22 @@
--- The figures of document 01, by computation. Assumes nothing.
+-- The table of figures, by computation. Assumes nothing.
 use mathlib.Core.Path.{_≡_, refl}
 use Rattle.units.specs.Lists.{tab, allBelow, sumTo}
 use Rattle.units.specs.Grounds.{outside, firstFit}
 use Rattle.units.specs.Rounding.{halfUp}
-use Rattle.factors.specs.Factors.{fuelOf, hasCold, coefficients, twoStroke, quadratic, curve, emissionFactor}
+use Rattle.curves.specs.Curves.{quadratic}
+use Rattle.classes.specs.Classes.{fuelOf, hasCold}
+use Rattle.factors.specs.Factors.{coefficients, twoStroke, curve, emissionFactor}
 use Rattle.coldstart.specs.ColdStart.{temperatureOk, coldShare, slopes, coldRatio, coldExcess, monthProduct, coldSum, coldX, coldFactor}
 use Rattle.inventory.specs.Records.{temperaturesWrong, headGrounds, vehicleKm, sharesWrong, speedsWrong, recordGrounds}
 use Rattle.inventory.specs.Order.{sumAt, sumWithin, inOrder}
 use Rattle.inventory.specs.Adding.{billionths, hotPart, coldRate, coldPart, partOf, partAt, slotAfter, kmOf, kmAfter, runWith, addGrounds, addNumber, addRun}
 use Rattle.inventory.specs.Opening.{emptyRun, freshRun, openNumber, openRun}
-use Rattle.inventory.specs.Printed.{exactTotal, printedTotal}
-use Rattle.fuel.specs.Balance.{balanceRatio, balancedTotal, balanceGrounds, balanceNumber, balanceOf}
+use Rattle.inventory.specs.Printed.{exactTotal, printedTotal, totalGrounds}
+use Rattle.balance.specs.Balance.{balanceRatio, balancedTotal, soldGrounds, balanceGrounds, balanceNumber, balanceOf}
 use Rattle.fuel.specs.FromFuel.{co2Grams, leadGrams}
 use Rattle.accuracy.specs.Claim.{runAfter}
 use Rattle.accuracy.specs.Numbers.{exampleRun, figures, NumbersClaim}
 
 pub numbers : NumbersClaim
-unfolding tab allBelow sumTo outside firstFit halfUp fuelOf hasCold coefficients twoStroke quadratic curve emissionFactor temperatureOk coldShare slopes coldRatio coldExcess monthProduct coldSum coldX coldFactor temperaturesWrong headGrounds vehicleKm sharesWrong speedsWrong recordGrounds sumAt sumWithin inOrder billionths hotPart coldRate coldPart partOf partAt slotAfter kmOf kmAfter runWith addGrounds addNumber addRun emptyRun freshRun openNumber openRun exactTotal printedTotal balanceRatio balancedTotal balanceGrounds balanceNumber balanceOf co2Grams leadGrams runAfter exampleRun figures
+unfolding tab allBelow sumTo outside firstFit halfUp fuelOf hasCold coefficients twoStroke quadratic curve emissionFactor temperatureOk coldShare slopes coldRatio coldExcess monthProduct coldSum coldX coldFactor temperaturesWrong headGrounds vehicleKm sharesWrong speedsWrong recordGrounds sumAt sumWithin inOrder billionths hotPart coldRate coldPart partOf partAt slotAfter kmOf kmAfter runWith addGrounds addNumber addRun emptyRun freshRun openNumber openRun exactTotal printedTotal totalGrounds balanceRatio balancedTotal soldGrounds balanceGrounds balanceNumber balanceOf co2Grams leadGrams runAfter exampleRun figures
 numbers = (refl, (refl, (refl, (refl, (refl, (refl, (refl, (refl, (refl, (refl, (refl, (refl, (refl, tt)))))))))))))

@@ -14,8 +14,10 @@ use Rattle.units.specs.Grounds.{firstFit}
 use Rattle.units.specs.Rounding.{halfUp}
 use Rattle.units.proofs.Tab.{tab-at}
 use Rattle.units.proofs.Tests.{and-left}
-use Rattle.factors.specs.Factors.{fuelOf, hasCold, emissionFactor}
-use Rattle.factors.proofs.Factors.{fuel-below, factor-most}
+use Rattle.classes.specs.Classes.{fuelOf, hasCold}
+use Rattle.factors.specs.Factors.{emissionFactor}
+use Rattle.classes.proofs.Classes.{fuel-below}
+use Rattle.factors.proofs.Factors.{factor-most}
 use Rattle.coldstart.specs.ColdStart.{coldSum, coldX, coldFactor}
 use Rattle.coldstart.proofs.ColdStart.{cold-high, cold-low}
 use Rattle.inventory.specs.declared.Head.{Head}

@@ -1,12 +1,10 @@
 -- Demand 3, whole. Assumes nothing.
-use mathlib.Core.Path.{_≡_, refl, ap, _∙_}
-use mathlib.Core.Bool.{Bool, true, false, not, cond, _||_}
+use mathlib.Core.Path.{_≡_, ap, _∙_}
+use mathlib.Core.Bool.{true}
 use mathlib.Core.List.{List}
 use Prim.Native.Nat.{ℕ, _+_, _-_, _<_}
 use native.Mathlib.Omega.{arith}
-use lib.Dec.{eqb, ltb}
-use lib.ListN.{length}
-use Rattle.units.specs.Grounds.{firstFit, numberFits, outside}
+use Rattle.units.specs.Grounds.{firstFit}
 use Rattle.units.specs.Fractions.{WithinDistance}
 use Rattle.units.proofs.Tab.{tab-at}
 use Rattle.units.proofs.Tests.{inside}
@@ -15,65 +13,29 @@ use Rattle.coldstart.proofs.ColdStart.{x-most}
 use Rattle.inventory.specs.declared.Head.{Head}
 use Rattle.inventory.specs.declared.Record.{Record}
 use Rattle.inventory.specs.declared.Run.{Run}
-use Rattle.inventory.specs.Records.{temperaturesWrong, headGrounds}
 use Rattle.inventory.specs.Order.{inOrder}
 use Rattle.inventory.specs.Opening.{emptyRun, freshRun, openNumber, openRun}
 use Rattle.inventory.specs.Printed.{answered, totalGrounds, totalOf, printedTotal}
 use Rattle.inventory.proofs.Records.{climate}
-use Rattle.fuel.specs.Balance.{balanceRatio, balanceGrounds, balanceNumber, balanceOf, printedFuel}
-use Rattle.fuel.proofs.Distance.{balance-near}
-use Rattle.listing.specs.Report.{reportBytes, reportGrounds, reportNumber, reportOf, reportBuffer}
+use Rattle.balance.proofs.Distance.{balance-near}
+use Rattle.listing.specs.Report.{reportOf, reportBuffer}
 use Rattle.accuracy.specs.Reference.{hasRoom, accepts, accepted, referenceOf}
+use Rattle.accuracy.specs.Conditions.{recordNumber}
 use Rattle.accuracy.specs.Claim.{runAfter, allowance, ListClaim, SameAccepted, EveryList, AccuracyClaim}
 use Rattle.accuracy.proofs.OneRecord.{xOf}
 use Rattle.accuracy.proofs.Closed.{closed, HeadLimits, km-closed, takes-accepted, accepted-good, run-closed, run-order}
 use Rattle.accuracy.proofs.Distance.{reference-count, reference-km, reference-exact, closed-near}
 use Rattle.accuracy.proofs.Order.{closed-same}
+use Rattle.accuracy.proofs.Conditions.{opening, adds, totals, reports, balances}
 
--- ---- on a run in order a question is refused exactly where one of its own numbers fits
-
-module _ (run : Run) (order : inOrder run ≡ true) where
-  totals : (fuel quantity : ℕ) → eqb (totalOf run fuel quantity .number) 0 ≡ not (numberFits 11 (totalGrounds run fuel quantity))
-  unfolding totalOf answered totalGrounds firstFit numberFits
-  totals fuel quantity = rw order (by (outside 1 3 fuel) (outside 1 5 quantity))
-    where
-      by : (a b : Bool) → eqb (cond a 11 (cond b 11 0)) 0 ≡ not (a || (b || false))
-      by true b = refl
-      by false true = refl
-      by false false = refl
-
-  reports : (buffer : List ℕ) → eqb (reportOf run buffer .number) 0 ≡ not (numberFits 14 (reportGrounds run buffer))
-  unfolding reportOf reportNumber reportGrounds firstFit numberFits
-  reports buffer = rw order (by (ltb (length buffer) (length (reportBytes run))))
-    where
-      by : (a : Bool) → eqb (cond a 14 0) 0 ≡ not (a || false)
-      by true = refl
-      by false = refl
-
-  balances : (fuel quantity s : ℕ) → eqb (balanceOf run fuel quantity s .number) 0
-      ≡ not (numberFits 11 (balanceGrounds run fuel quantity s) || numberFits 12 (balanceGrounds run fuel quantity s) || numberFits 13 (balanceGrounds run fuel quantity s))
-  unfolding balanceOf balanceNumber balanceGrounds firstFit numberFits
-  balances fuel quantity s =
-      rw order
-      (by (outside 1 3 fuel) (outside 1 5 quantity) (eqb (printedFuel run (fuel - 1)) 0) (ltb 999999999 s)
-      (outside 500000 1500000 (balanceRatio s (printedFuel run (fuel - 1)))))
-    where
-      by : (a b c d e : Bool) → eqb (cond a 11 (cond b 11 (cond c 12 (cond d 13 (cond e 13 0))))) 0
-          ≡ not ((a || (b || false)) || (c || false) || (d || (e || false)))
-      by true b c d e = refl
-      by false true c d e = refl
-      by false false true d e = refl
-      by false false false true e = refl
-      by false false false false true = refl
-      by false false false false false = refl
-
-  -- a question within the table is answered
-  total-given : (fuel quantity : ℕ) → fuel < 3 → quantity < 5 → totalOf run (fuel + 1) (quantity + 1) .grams ≡ printedTotal run fuel quantity
-  unfolding totalOf answered totalGrounds firstFit
-  total-given fuel quantity f q =
-      let fuel-back : fuel + 1 - 1 ≡ fuel = omega arith in
-      let quantity-back : quantity + 1 - 1 ≡ quantity = omega arith in
-      rw (order, inside 1 3 (fuel + 1) (omega arith) (omega arith), inside 1 5 (quantity + 1) (omega arith) (omega arith), fuel-back, quantity-back)
+-- on a run in order a question within the table is answered
+total-given : (run : Run) → inOrder run ≡ true → (fuel quantity : ℕ) → fuel < 3 → quantity < 5
+    → totalOf run (fuel + 1) (quantity + 1) .grams ≡ printedTotal run fuel quantity
+unfolding totalOf answered totalGrounds firstFit
+total-given run order fuel quantity f q =
+    let fuel-back : fuel + 1 - 1 ≡ fuel = omega arith in
+    let quantity-back : quantity + 1 - 1 ≡ quantity = omega arith in
+    rw (order, inside 1 3 (fuel + 1) (omega arith) (omega arith), inside 1 5 (quantity + 1) (omega arith) (omega arith), fuel-back, quantity-back)
 
 -- ---- every list under a head that opening took
 
@@ -110,17 +72,14 @@ module _ (head : Head) (taken : openNumber head ≡ 0) where
       (closed-near head (accepted recs) (accepted-good recs 0) fuel quantity f q)
 
   listed : (recs : List Record) → ListClaim (runAfter (openRun head) recs) (referenceOf head recs)
-  unfolding totalOf answered reportOf reportNumber balanceOf balanceNumber
   listed recs =
       record {
         takes = λ rec. takes-accepted (runAfter (openRun head) recs) rec (ordered recs) ∙ ap (λ n. accepts (hasRoom n) rec) (counted recs);
+        adds = λ rec. adds (runAfter (openRun head) recs) (ordered recs) rec ∙ ap (λ n. recordNumber n rec) (counted recs);
         ordered = ordered recs;
         totals = totals (runAfter (openRun head) recs) (ordered recs);
-        first-total = λ fuel quantity. refl;
         reports = reports (runAfter (openRun head) recs) (ordered recs);
-        first-report = λ buffer. refl;
         balances = balances (runAfter (openRun head) recs) (ordered recs);
-        first-balance = λ fuel quantity s. refl;
         count = counted recs;
         km = λ fuel f. rw (after recs, reference-km head recs fuel) (km-closed (head .trip) (xOf head) (accepted recs) fuel f);
         near = near recs;
@@ -142,20 +101,5 @@ module _ (head : Head) (taken : openNumber head ≡ 0) where
             };
       }
 
--- ---- opening
-
-opening : (head : Head) → eqb (openNumber head) 0 ≡ not (numberFits 1 (headGrounds head) || numberFits 2 (headGrounds head))
-unfolding openNumber headGrounds firstFit numberFits
-opening head = by (outside 10 200 (head .trip)) (temperaturesWrong head)
-  where
-    by : (a b : Bool) → eqb (cond a 1 (cond b 2 0)) 0 ≡ not ((a || false) || (b || false))
-    by true b = refl
-    by false true = refl
-    by false false = refl
-
-first-opening : (head : Head) → openNumber head ≡ firstFit (headGrounds head)
-unfolding openNumber
-first-opening head = refl
-
 pub whole : AccuracyClaim
-whole = record { opening = opening; first-opening = first-opening; lists = every-list; balance = balance-near }
+whole = record { opening = opening; lists = every-list; balance = balance-near }

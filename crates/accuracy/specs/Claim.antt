@@ -1,22 +1,22 @@
--- Demand 3, whole, as one statement over the functions on the right of ≡ in the calls' contracts.
+-- SPECIFICATION, "Accuracy" (demand 3), whole, as one statement over the functions on the right of ≡ in the calls' contracts.
 -- Assumes nothing.
 use Prim.Native.Nat.{ℕ, _+_, _*_, _-_, _<_}
 use mathlib.Core.Path.{_≡_}
-use mathlib.Core.Bool.{true, not, _||_}
+use mathlib.Core.Bool.{true, cond}
 use mathlib.Core.List.{List, [], _∷_}
 use lib.Dec.{eqb}
-use Rattle.units.specs.Grounds.{numberFits, firstFit}
+use lib.ListN.{length}
 use Rattle.units.specs.Fractions.{Fraction, over, plus, WithinDistance}
 use Rattle.inventory.specs.declared.Head.{Head}
 use Rattle.inventory.specs.declared.Record.{Record}
 use Rattle.inventory.specs.declared.Run.{Run}
-use Rattle.inventory.specs.Records.{headGrounds}
 use Rattle.inventory.specs.Order.{inOrder, kmIn}
 use Rattle.inventory.specs.Opening.{openNumber, openRun}
 use Rattle.inventory.specs.Adding.{addNumber, addRun}
-use Rattle.inventory.specs.Printed.{totalGrounds, totalOf, printedTotal}
-use Rattle.fuel.specs.Balance.{balanceGrounds, balanceOf, printedFuel, BalanceNear}
-use Rattle.listing.specs.Report.{reportGrounds, reportOf, reportBuffer}
+use Rattle.inventory.specs.Printed.{totalOf, printedTotal}
+use Rattle.balance.specs.Balance.{balanceOf, printedFuel, BalanceNear}
+use Rattle.listing.specs.Report.{reportBytes, reportOf, reportBuffer}
+use Rattle.accuracy.specs.Conditions.{tripOut, temperatureOut, recordNumber, fuelOrQuantityOut, noFuelUsed, soldFuelOut, bufferShort}
 use Rattle.accuracy.specs.Reference.{Reference, referenceOf, hasRoom, accepts, accepted, occurs}
 
 -- the run after a list of adds, each on the run that the one before it gave back, refused or not
@@ -28,20 +28,23 @@ runAfter run (rec ∷ recs) = runAfter (addRun run rec) recs
 unfoldable pub allowance : ℕ → Fraction
 allowance km = plus (over 1 2) (over (15 * km) (10 * 10000000))
 
+-- F: the FC total of a fuel, as the run gives it
+abbrev pub fuelTotal : Run → ℕ → ℕ
+fuelTotal run fuel = totalOf run fuel 5 .grams
+
 -- what holds of the run after a list of records, given the reference after it
 pub record ListClaim (run : Run) (reference : Reference) : Type 0 where
   -- the next add takes its record exactly where the reference accepts it
   pub takes : (rec : Record) → eqb (addNumber run rec) 0 ≡ accepts (hasRoom (reference .count)) rec
+  -- its number is the first of 3 to 8 that fits the record, then 9 by the reference's count
+  pub adds : (rec : Record) → addNumber run rec ≡ recordNumber (reference .count) rec
   -- 16 fits no such run
   pub ordered : inOrder run ≡ true
   -- a total is refused exactly where 11 fits, a report exactly where 14, a balance exactly where 11, 12 or 13, with the first that fits
-  pub totals : (fuel quantity : ℕ) → eqb (totalOf run fuel quantity .number) 0 ≡ not (numberFits 11 (totalGrounds run fuel quantity))
-  pub first-total : (fuel quantity : ℕ) → totalOf run fuel quantity .number ≡ firstFit (totalGrounds run fuel quantity)
-  pub reports : (buffer : List ℕ) → eqb (reportOf run buffer .number) 0 ≡ not (numberFits 14 (reportGrounds run buffer))
-  pub first-report : (buffer : List ℕ) → reportOf run buffer .number ≡ firstFit (reportGrounds run buffer)
-  pub balances : (fuel quantity s : ℕ) → eqb (balanceOf run fuel quantity s .number) 0
-      ≡ not (numberFits 11 (balanceGrounds run fuel quantity s) || numberFits 12 (balanceGrounds run fuel quantity s) || numberFits 13 (balanceGrounds run fuel quantity s))
-  pub first-balance : (fuel quantity s : ℕ) → balanceOf run fuel quantity s .number ≡ firstFit (balanceGrounds run fuel quantity s)
+  pub totals : (fuel quantity : ℕ) → totalOf run fuel quantity .number ≡ cond (fuelOrQuantityOut fuel quantity) 11 0
+  pub reports : (buffer : List ℕ) → reportOf run buffer .number ≡ cond (bufferShort (length buffer) (length (reportBytes run))) 14 0
+  pub balances : (fuel quantity s : ℕ) → balanceOf run fuel quantity s .number
+      ≡ cond (fuelOrQuantityOut fuel quantity) 11 (cond (noFuelUsed (fuelTotal run fuel)) 12 (cond (soldFuelOut s (fuelTotal run fuel)) 13 0))
   -- count and kilometres are the reference's
   pub count : run .count ≡ reference .count
   pub km : (fuel : ℕ) → fuel < 3 → kmIn run fuel ≡ reference .km fuel
@@ -67,8 +70,7 @@ pub record EveryList (head : Head) : Type 0 where
 
 pub record AccuracyClaim : Type 0 where
   -- opening refuses exactly where 1 or 2 fits, with the first that fits
-  pub opening : (head : Head) → eqb (openNumber head) 0 ≡ not (numberFits 1 (headGrounds head) || numberFits 2 (headGrounds head))
-  pub first-opening : (head : Head) → openNumber head ≡ firstFit (headGrounds head)
+  pub opening : (head : Head) → openNumber head ≡ cond (tripOut (head .trip)) 1 (cond (temperatureOut (head .temps)) 2 0)
   -- every list of adds under every head that opening took
   pub lists : (head : Head) → openNumber head ≡ 0 → EveryList head
   -- on any run, a balanced total that is not refused

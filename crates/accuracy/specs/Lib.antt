@@ -1,3 +1,4 @@
 pub mod Reference
+pub mod Conditions
 pub mod Claim
 pub mod Numbers

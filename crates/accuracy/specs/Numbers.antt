@@ -1,9 +1,9 @@
--- The figures of document 01, "Numbers to hold it against", as one table.
+-- SPECIFICATION, "Figures", as one table.
 -- Assumes nothing.
 use Prim.Native.Nat.{ℕ}
 use mathlib.Core.Path.{_≡_}
 use mathlib.Core.List.{List, [], _∷_}
-use lib.IntN.{ℤ, pos}
+use lib.IntN.{pos}
 use lib.ListN.{replicate}
 use Rattle.factors.specs.Factors.{emissionFactor}
 use Rattle.coldstart.specs.ColdStart.{coldShare, orZero, coldX, coldFactor}
@@ -11,7 +11,7 @@ use Rattle.inventory.specs.declared.Head.{Head}
 use Rattle.inventory.specs.declared.Record.{Record}
 use Rattle.inventory.specs.declared.Run.{Run}
 use Rattle.inventory.specs.Opening.{openRun}
-use Rattle.fuel.specs.Balance.{balanceOf}
+use Rattle.balance.specs.Balance.{balanceOf}
 use Rattle.fuel.specs.FromFuel.{co2Grams, leadGrams}
 use Rattle.accuracy.specs.Claim.{runAfter}
 
@@ -19,11 +19,11 @@ use Rattle.accuracy.specs.Claim.{runAfter}
 abbrev pub exampleHead : Head
 exampleHead = record { trip = 120; temps = replicate 12 (pos 100) }
 
--- record ` 2   1000  10000  40  40  20  20  60 100`
-abbrev pub exampleRecord : Record
-exampleRecord =
+-- record ` 2   1000  10000  40  40  20  20  60 100`, with any class
+abbrev pub exampleOf : ℕ → Record
+exampleOf class =
     record {
-      class = 2;
+      class = class;
       vehicles = 1000;
       km = 10000;
       shares = record { urban = 40; rural = 40; highway = 20 };
@@ -31,9 +31,9 @@ exampleRecord =
     }
 
 unfoldable pub exampleRun : Run
-exampleRun = runAfter (openRun exampleHead) (exampleRecord ∷ [])
+exampleRun = runAfter (openRun exampleHead) (exampleOf 2 ∷ [])
 
--- a figure of the table: the value that the definitions give, and the one that document 01 prints
+-- a figure of the table: the value that the definitions give, and the one that SPECIFICATION prints
 pub record Figure : Type 0 where
   pub given : ℕ
   pub printed : ℕ

@@ -1,4 +1,4 @@
--- The reference inventory (document 01, "What demand 3 measures": its 'tally on paper'), fed a head and then records, never an answer.
+-- The reference inventory (SPECIFICATION, "Accuracy"; the request's tally on paper), fed a head and then records, never an answer.
 -- Assumes nothing.
 use Prim.Native.Nat.{ℕ, _+_, _*_, _/_}
 use mathlib.Core.Bool.{Bool, cond, _&&_}
@@ -6,12 +6,13 @@ use mathlib.Core.List.{List, [], _∷_}
 use lib.Dec.{eqb, ltb}
 use Rattle.units.specs.Grounds.{firstFit}
 use Rattle.units.specs.Fractions.{Fraction, over, plus}
-use Rattle.factors.specs.Factors.{fuelOf, hasCold, emissionFactor}
+use Rattle.classes.specs.Classes.{fuelOf, hasCold}
 use Rattle.coldstart.specs.ColdStart.{coldSum, coldDenominator}
 use Rattle.inventory.specs.declared.Head.{Head}
 use Rattle.inventory.specs.declared.Record.{Record}
-use Rattle.inventory.specs.Records.{recordGrounds, vehicleKm, shareOf, speedOf}
+use Rattle.inventory.specs.Records.{recordGrounds, vehicleKm, shareOf}
 use Rattle.inventory.specs.Order.{recordLimit}
+use Rattle.inventory.specs.Adding.{factorOf}
 
 -- acceptable: no number but 9 and 16 fits the record's add
 unfoldable pub acceptable : Record → Bool
@@ -27,7 +28,7 @@ accepts room rec = acceptable rec && room
 
 -- the exact, never rounded E
 abbrev pub exactFactor : Record → ℕ → ℕ → ℕ
-exactFactor rec quantity road = emissionFactor (rec .class) quantity road (speedOf rec road)
+exactFactor rec quantity road = factorOf rec quantity road
 
 -- the sum of B × Q behind the unrounded X of a class and a quantity; its denominator is coldDenominator
 abbrev pub exactColdSum : Head → ℕ → ℕ → ℕ

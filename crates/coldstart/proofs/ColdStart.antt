@@ -123,23 +123,14 @@ module _ (l : ℕ) (low : 10 ≤ l) (high : l ≤ 200) where
       let h : k * suc n ≤ k * 300 = mul-le-mul-left k (omega (arith, leb→le n 299 (low-side (negsuc n) w))) in
       is-whole ((λ i. base i -ℤ fall i *ℤ negsuc n) ∙ ap (λ (z : ℤ). pos (64700000 - 250000 * l) +ℤ z) (negℤ-negℤ (pos (k * suc n)))) (omega arith)
 
-whole-range : (m : ℕ) (z : ℤ) → Whole m z → (pos 0 ≤ℤ z) × (z ≤ℤ pos m)
+pub whole-range : (m : ℕ) (z : ℤ) → Whole m z → (pos 0 ≤ℤ z) × (z ≤ℤ pos m)
 whole-range m z w = subst (λ (y : ℤ). (pos 0 ≤ℤ y) × (y ≤ℤ pos m)) (sym (w .same)) (leZ-yes (le→leb 0 (natAbs z) (omega arith)), leZ-yes (le→leb (natAbs z) m (w .most)))
 
-wider : {m n : ℕ} {z : ℤ} → Whole m z → m ≤ n → Whole n z
+pub wider : {m n : ℕ} {z : ℤ} → Whole m z → m ≤ n → Whole n z
 wider w h = record { same = w .same; most = omega (arith, w .most) }
 
-module _ (l : ℕ) (ts : List ℤ) (c : Climate l ts) where
-  month-whole : (k : ℕ) → k < 12 → Whole 90265000 (coldShare l (getD ts k (pos 0)))
-  month-whole k h = share-whole l (c .trip-low) (c .trip-high) (getD ts k (pos 0)) (c .temperatures k h)
-
-  -- document 01: inside the limits of a head B lies between 0 and 1
-  pub share-range : (k : ℕ) → k < 12 → (pos 0 ≤ℤ coldShare l (getD ts k (pos 0))) × (coldShare l (getD ts k (pos 0)) ≤ℤ pos 100000000)
-  share-range k h = whole-range 100000000 (coldShare l (getD ts k (pos 0))) (wider (month-whole k h) (omega arith))
-
-  -- and nothing of it is cut
-  pub share-kept : (k : ℕ) → k < 12 → pos (natAbs (coldShare l (getD ts k (pos 0)))) ≡ coldShare l (getD ts k (pos 0))
-  share-kept k h = sym (month-whole k h .same)
+pub month-whole : (l : ℕ) (ts : List ℤ) → Climate l ts → (k : ℕ) → k < 12 → Whole 90265000 (coldShare l (getD ts k (pos 0)))
+month-whole l ts c k h = share-whole l (c .trip-low) (c .trip-high) (getD ts k (pos 0)) (c .temperatures k h)
 
 -- ---- Q
 
@@ -232,7 +223,7 @@ pub sum-most : (l : ℕ) (ts : List ℤ) → Climate l ts → (f q : ℕ) → f 
 unfolding coldSum sumsTo entry
 sum-most l ts c f q hf hq = sums-most l ts c 12 (f * 5 + q) (omega arith) (omega arith)
 
--- document 01: each X is at most 4,900,000,000
+-- each X is at most 4,900,000,000
 pub x-most : (l : ℕ) (ts : List ℤ) → Climate l ts → (i : ℕ) → i < 15 → coldX l ts i ≤ 4900000000
 unfolding coldX halfUp
 x-most l ts c i h = omega (arith, sum-most l ts c (i / 5) (i % 5) (omega arith) (omega arith))

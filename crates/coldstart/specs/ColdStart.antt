@@ -1,4 +1,4 @@
--- Cold starts (document 01, "Cold starts").
+-- Cold starts (SPECIFICATION, "Cold starts").
 -- Assumes nothing.
 use Prim.Native.Nat.{ℕ, _+_, _*_, _/_, _%_, _≤_, _<_}
 use mathlib.Core.Bool.{Bool, true, _&&_}

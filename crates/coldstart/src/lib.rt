@@ -5,6 +5,7 @@ ghost use Prim.Native.Nat.{_≤_};
 ghost use lib.IntN.{natAbs};
 ghost use Rattle.units.specs.Lists.{tab};
 ghost use Rattle.coldstart.specs.ColdStart.{Climate, coldExcess, coldFactor, coldShare, coldX, SlopeLimits, SmallSums, pairs, slope, slopes, temperatureOk, withMonth, xFrom};
+ghost use Rattle.coldstart.specs.Claim.{ShareClaim};
 
 // Whether a temperature is from -300 to 400 tenths of a degree.
 pub fn temperature_ok(t: i64) -> bool
@@ -114,3 +115,8 @@ pub fn cold_factor(e: u64, x: u64) -> u64
 {
     (e * x + 500000000) / 1000000000
 }
+
+// Does nothing: its contract is the range of B and of X, for every head that opening takes.
+pub fn share_claim()
+    ensures { λ r. ⌜ ShareClaim ⌝ }
+{}

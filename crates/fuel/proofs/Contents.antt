@@ -1,36 +1,43 @@
 -- The grounds of a question for grams from fuel. Assumes nothing.
-use mathlib.Core.Path.{_≡_, refl, sym}
-use mathlib.Core.Bool.{true, false}
+use mathlib.Core.Path.{_≡_}
+use mathlib.Core.Bool.{true, cond}
+use mathlib.Core.List.{[], _∷_}
 use Prim.Native.Nat.{ℕ, _+_, _*_, _≤_, _<_}
 use native.Mathlib.Nat.{mul-le-mul}
 use native.Mathlib.Omega.{arith}
-use borrow.Author.Tests.{lt-ltb, le-ltb, ltb-false, not-false}
-use Rattle.units.specs.Grounds.{firstFit, outside}
+use lib.Dec.{eqb, ltb}
+use borrow.Author.Tests.{lt-ltb, le-ltb, ltb-false}
+use Rattle.units.specs.declared.Refusal.{Refusal}
+use Rattle.units.specs.declared.Verdict.{Verdict}
+use Rattle.units.specs.declared.Verdict.the-variants.{Taken, Refused}
+use Rattle.units.specs.Grounds.{ground, firstFit}
+use Rattle.units.specs.Refusals.{refusalNumber, verdictNumber}
 use Rattle.units.specs.Rounding.{halfUp}
-use Rattle.units.proofs.Grounds.{passed}
-use Rattle.units.proofs.Tests.{inside-low, inside-high}
+use Rattle.units.proofs.Grounds.{passed, fit-append}
+use Rattle.units.proofs.Refusals.{number-positive, taken-number, refused-number}
 use Rattle.inventory.specs.declared.Run.{Run}
 use Rattle.inventory.specs.Order.{inOrder}
-use Rattle.inventory.specs.Printed.{answered}
+use Rattle.inventory.specs.Printed.{answered, totalGrounds}
+use Rattle.inventory.proofs.Totals.{asked-of}
 use Rattle.fuel.specs.FromFuel.{contentGrounds}
+use Rattle.balance.proofs.Behind.{both}
 
 module _ (run : Run) (fuel limit content : ℕ) where
-  pub unordered : inOrder run ≡ false → 16 ≡ firstFit (contentGrounds run fuel limit content)
-  unfolding firstFit contentGrounds
-  unordered o = rw o
+  -- a question's grounds come first
+  in-turn : firstFit (contentGrounds run fuel limit content)
+      ≡ cond (eqb (firstFit (totalGrounds run fuel 5)) 0) (cond (ltb limit content) 15 0) (firstFit (totalGrounds run fuel 5))
+  unfolding contentGrounds totalGrounds firstFit
+  in-turn = fit-append (totalGrounds run fuel 5) (ground 15 (ltb limit content) ∷ []) tt
 
-  module _ (o : inOrder run ≡ true) where
-    pub no-fuel : outside 1 3 fuel ≡ true → 11 ≡ firstFit (contentGrounds run fuel limit content)
-    unfolding firstFit contentGrounds
-    no-fuel f = rw (o, f)
+  module _ (v : Verdict) (asked : verdictNumber v ≡ firstFit (totalGrounds run fuel 5)) where
+    pub unasked : (r : Refusal) → v ≡ Refused r → refusalNumber r ≡ firstFit (contentGrounds run fuel limit content)
+    unasked r e = rw (in-turn, refused-number v r _ e asked, number-positive r)
 
-    pub over : outside 1 3 fuel ≡ false → limit < content → 15 ≡ firstFit (contentGrounds run fuel limit content)
-    unfolding firstFit contentGrounds
-    over f h = rw (o, f, lt-ltb limit content h)
+    pub over : v ≡ Taken → limit < content → 15 ≡ firstFit (contentGrounds run fuel limit content)
+    over e h = rw (in-turn, taken-number v _ e asked, lt-ltb limit content h)
 
-    pub within : outside 1 3 fuel ≡ false → content ≤ limit → 0 ≡ firstFit (contentGrounds run fuel limit content)
-    unfolding firstFit contentGrounds
-    within f h = rw (o, f, le-ltb limit content h)
+    pub within : v ≡ Taken → content ≤ limit → 0 ≡ firstFit (contentGrounds run fuel limit content)
+    within e h = rw (in-turn, taken-number v _ e asked, le-ltb limit content h)
 
 -- what such a question has that no ground fits
 pub record Contained (run : Run) (fuel limit content : ℕ) : Type 0 where
@@ -40,14 +47,15 @@ pub record Contained (run : Run) (fuel limit content : ℕ) : Type 0 where
   pub content-high : content ≤ limit
 
 pub contained : (run : Run) (fuel limit content : ℕ) → firstFit (contentGrounds run fuel limit content) ≡ 0 → Contained run fuel limit content
-unfolding contentGrounds
+unfolding contentGrounds totalGrounds
 contained run fuel limit content z =
-    let p = passed (contentGrounds run fuel limit content) tt z in
+    let p = both (totalGrounds run fuel 5) (ground 15 (ltb limit content) ∷ []) tt z in
+    let a = asked-of run fuel 5 (p .0) in
     record {
-      order = not-false (inOrder run) (p .0);
-      fuel-low = inside-low 1 3 fuel (p .1 .0);
-      fuel-high = inside-high 1 3 fuel (p .1 .0);
-      content-high = ltb-false limit content (p .1 .1 .0);
+      order = a .order;
+      fuel-low = a .fuel-low;
+      fuel-high = a .fuel-high;
+      content-high = ltb-false limit content (passed (ground 15 (ltb limit content) ∷ []) tt (p .1) .0);
     }
 
 -- the numbers of a formula stay small within the limit of the content

@@ -1,4 +1,1 @@
-pub mod Distance
-pub mod Division
-pub mod Answers
 pub mod Contents

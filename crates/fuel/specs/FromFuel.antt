@@ -1,15 +1,13 @@
--- CO2, SO2 and lead from fuel (document 01, "From fuel").
+-- CO2, SO2 and lead from fuel (SPECIFICATION, "From fuel").
 -- Assumes nothing.
 use Prim.Native.Nat.{ℕ, _+_, _*_, _-_}
-use mathlib.Core.Bool.{not}
-use mathlib.Core.List.{List, [], _∷_}
+use mathlib.Core.List.{List, [], _∷_, _++_}
 use lib.Dec.{ltb}
-use Rattle.units.specs.Grounds.{Ground, ground, firstFit, outside}
+use Rattle.units.specs.Grounds.{Ground, ground, firstFit}
 use Rattle.units.specs.Rounding.{halfUp}
 use Rattle.inventory.specs.declared.Run.{Run}
-use Rattle.inventory.specs.Order.{inOrder}
-use Rattle.inventory.specs.Printed.{Answer, answered}
-use Rattle.fuel.specs.Balance.{printedFuel}
+use Rattle.inventory.specs.Printed.{Answer, answered, totalGrounds}
+use Rattle.balance.specs.Balance.{printedFuel}
 
 -- CO2 = 44,011,000F / (12,011,000 + 1,008R), half up; R is hydrogen per carbon in thousandths
 unfoldable pub co2Grams : ℕ → ℕ → ℕ
@@ -23,10 +21,9 @@ so2Grams f s = halfUp (2 * s * f) 1000000
 unfoldable pub leadGrams : ℕ → ℕ → ℕ
 leadGrams f l = halfUp (3 * l * f) 4000000
 
--- the grounds, in their order: 16, 11, then 15 for R, s or l over its limit; the fuel as document 01 numbers it, from 1
+-- the grounds: those of a question for the FC total of the fuel, then 15 for R, s or l over its limit; the fuel counts from 1 here
 unfoldable pub contentGrounds : Run → ℕ → ℕ → ℕ → List Ground
-contentGrounds run fuel limit content =
-    ground 16 (not (inOrder run)) ∷ ground 11 (outside 1 3 fuel) ∷ ground 15 (ltb limit content) ∷ []
+contentGrounds run fuel limit content = totalGrounds run fuel 5 ++ (ground 15 (ltb limit content) ∷ [])
 
 -- the answers, over F, the printed FC total of the fuel
 unfoldable pub co2Of : Run → ℕ → ℕ → Answer

@@ -11,8 +11,10 @@ use borrow.Author.Tests.{lt-ltb, le-ltb, lt-leb, le-leb, eq-eqb, ne-eqb, ltb-tru
 use Rattle.units.specs.declared.Grams.{Grams}
 use Rattle.units.specs.Grounds.{Ground, ground, firstFit}
 use Rattle.units.proofs.Grounds.{fit-append}
-use Rattle.factors.specs.Factors.{fuelOf, hasCold, emissionFactor, Driven}
-use Rattle.factors.proofs.Factors.{fuel-below, factor-most}
+use Rattle.classes.specs.Classes.{fuelOf, hasCold}
+use Rattle.factors.specs.Factors.{emissionFactor, Driven}
+use Rattle.classes.proofs.Classes.{fuel-below}
+use Rattle.factors.proofs.Factors.{factor-most}
 use Rattle.coldstart.specs.ColdStart.{coldFactor}
 use Rattle.coldstart.proofs.ColdStart.{cold-factor-most}
 use Rattle.inventory.specs.declared.Record.{Record}

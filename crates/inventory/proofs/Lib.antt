@@ -1,5 +1,4 @@
 pub mod Order
-pub mod Together
 pub mod Records
 pub mod Adding
 pub mod Totals

@@ -50,17 +50,6 @@ total-made run fuel quantity j e =
     let d : place fuel quantity 3 ≡ j + 3 = omega arith in
     rw (a, b, c, d) (total-grams _ _ _ _ _ _ _ _)
 
--- the four printed kinds miss the printed total by at most 2 g
-pub record KindsNear (kinds total : ℕ) : Type 0 where
-  pub high : kinds ≤ total + 2
-  pub low : total ≤ kinds + 2
-
-pub kinds-near : (run : Run) (fuel quantity : ℕ)
-    → KindsNear (printedKind run fuel quantity 0 + printedKind run fuel quantity 1 + printedKind run fuel quantity 2 + printedKind run fuel quantity 3)
-    (printedTotal run fuel quantity)
-unfolding printedKind printedTotal exactTotal halfUp
-kinds-near run fuel quantity = record { high = omega arith; low = omega arith }
-
 -- in a run in order a printed kind is at most 5 × 10^15 g, and a printed total at most 2 × 10^16 g
 sum-at-most : (run : Run) → inOrder run ≡ true → (j : ℕ) → j < 60 → sumAt run j ≤ 5000000000000000000000000
 sum-at-most run o j h = omega (arith, sum-most run o j h, count-of run o)

@@ -1,7 +1,7 @@
--- Adding a record to a run (document 01, "Hot factors", "Cold starts" and "The run").
+-- Adding a record to a run (SPECIFICATION, "Hot factors", "Cold starts" and "The run").
 -- Assumes nothing.
 use Prim.Native.Nat.{ℕ, _+_, _*_, _/_, _%_}
-use mathlib.Core.Bool.{Bool, not, cond}
+use mathlib.Core.Bool.{not, cond}
 use mathlib.Core.List.{List, [], _∷_, _++_}
 use lib.Dec.{leb, ltb, eqb}
 use lib.ListN.{getD}
@@ -9,7 +9,8 @@ use Rattle.units.specs.declared.Grams.{Grams}
 use Rattle.units.specs.declared.VehicleKm.{VehicleKm}
 use Rattle.units.specs.Lists.{tab}
 use Rattle.units.specs.Grounds.{Ground, ground, firstFit}
-use Rattle.factors.specs.Factors.{fuelOf, hasCold, emissionFactor}
+use Rattle.classes.specs.Classes.{fuelOf, hasCold}
+use Rattle.factors.specs.Factors.{emissionFactor}
 use Rattle.coldstart.specs.ColdStart.{coldFactor}
 use Rattle.inventory.specs.declared.Record.{Record}
 use Rattle.inventory.specs.declared.Run.{Run}
@@ -21,7 +22,7 @@ use Rattle.inventory.specs.Order.{inOrder, sumAt, kmIn, recordLimit}
 unfoldable pub billionths : ℕ → Amount
 billionths n = record { grams = record { 0 = n / 1000000000 }; rest = n % 1000000000 }
 
--- document 01's E of a record on a road
+-- the specification's E of a record on a road
 abbrev pub factorOf : Record → ℕ → ℕ → ℕ
 factorOf rec quantity road = emissionFactor (rec .class) quantity road (speedOf rec road)
 

@@ -1,6 +1,6 @@
 -- The bounds of accepted records and of runs in order that keep every step of the code in 64 bits: what inner functions require.
 -- Assumes nothing.
-use Prim.Native.Nat.{ℕ, _*_, _≤_, _<_}
+use Prim.Native.Nat.{ℕ, _≤_, _<_}
 use lib.ListN.{getD}
 use Rattle.factors.specs.Factors.{Driven}
 use Rattle.inventory.specs.declared.Record.{Record}

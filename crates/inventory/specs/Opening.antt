@@ -1,4 +1,4 @@
--- Opening a run (document 01, "The run").
+-- Opening a run (SPECIFICATION, "The run").
 -- Assumes nothing.
 use Prim.Native.Nat.{ℕ}
 use mathlib.Core.Bool.{cond}

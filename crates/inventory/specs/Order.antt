@@ -1,4 +1,4 @@
--- The run, and when it is in order (document 01, "The run").
+-- The run, and when it is in order (SPECIFICATION, "The run").
 -- Assumes nothing.
 use Prim.Native.Nat.{ℕ, _+_, _*_}
 use mathlib.Core.Bool.{Bool, not, _&&_}

@@ -1,4 +1,4 @@
--- Printed kinds and totals (document 01, "The run").
+-- Printed kinds and totals (SPECIFICATION, "The run").
 -- Assumes nothing.
 use Prim.Native.Nat.{ℕ, _+_, _*_, _-_}
 use mathlib.Core.Bool.{not, cond}
@@ -38,12 +38,12 @@ exactTotal run fuel quantity =
 unfoldable pub printedTotal : Run → ℕ → ℕ → ℕ
 printedTotal run fuel quantity = halfUp (exactTotal run fuel quantity) 1000000000
 
--- the grounds of a question, in their order; fuel and quantity as document 01 numbers them, from 1
+-- the grounds of a question, in their order; fuel and quantity as callers number them, from 1
 unfoldable pub totalGrounds : Run → ℕ → ℕ → List Ground
 totalGrounds run fuel quantity =
     ground 16 (not (inOrder run)) ∷ ground 11 (outside 1 3 fuel) ∷ ground 11 (outside 1 5 quantity) ∷ []
 
--- an answer as document 01 gives it: its number, 0 where it is given, and its grams, 0 where it is refused
+-- an answer as its number, 0 where it is given, and its grams, 0 where it is refused
 pub record Answer : Type 0 where
   pub number : ℕ
   pub grams : ℕ

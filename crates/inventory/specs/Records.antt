@@ -1,5 +1,5 @@
--- Heads and records: what their parts mean, and the grounds on which they are refused (document 01, "Records and units"
--- and "Grounds for sending a sheet back").
+-- Heads and records: what their parts mean, and the grounds on which they are refused (SPECIFICATION, "Records and units"
+-- and "Refusals").
 -- Assumes nothing.
 use Prim.Native.Nat.{ℕ, _+_, _*_}
 use mathlib.Core.Bool.{Bool, not, _||_}
@@ -25,7 +25,7 @@ temperaturesWrong head = not (allBelow (monthOk head) 12)
 unfoldable pub headGrounds : Head → List Ground
 headGrounds head = ground 1 (outside 10 200 (head .trip)) ∷ ground 2 (temperaturesWrong head) ∷ []
 
--- document 01's K, in vehicle kilometres
+-- the specification's K, in vehicle kilometres
 unfoldable pub vehicleKm : Record → ℕ
 vehicleKm rec = rec .vehicles * rec .km
 

@@ -1,3 +1,3 @@
-pub mod Stores
 pub mod Lines
 pub mod Report
+pub mod Widths

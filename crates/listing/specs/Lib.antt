@@ -1,2 +1,2 @@
 pub mod Report
-pub mod Table
+pub mod Claim

@@ -6,7 +6,6 @@ use Prim.Native.Nat.{ℕ, _+_, _*_, _-_, _^_, _≤_, _<_}
 use native.Mathlib.Omega.{arith}
 use lib.Dec.{eqb}
 use lib.Ieee.{Float}
-use lib.ListN.{getD}
 use borrow.Author.Tests.{eq-eqb, ne-eqb}
 use Rattle.units.specs.declared.Refusal.{Refusal}
 use Rattle.units.specs.declared.Verdict.{Verdict}
@@ -107,12 +106,3 @@ module _ (run : Run) (fuel quantity : ℕ) where
       figure-given kind x g h =
           let f = field-exact kind in
           (rw (number-zero, g, h, f .same), rw (number-zero, g, h) (f, tt))
-
--- the float of a figure is the row's field of its kind
-pub figure-in-row : (run : Run) (fuel quantity : ℕ) (kind : Kind) → rowNumber run fuel quantity ≡ 0 → notGiven fuel quantity ≡ false
-    → figureOf run fuel quantity kind .floats ≡ getD (rowOf run fuel quantity .floats) (kindPlace kind) (floatOf 0) ∷ []
-unfolding figureOf rowOf rowGrams
-figure-in-row run fuel quantity Urban e g = rw (e, g)
-figure-in-row run fuel quantity Rural e g = rw (e, g)
-figure-in-row run fuel quantity Highway e g = rw (e, g)
-figure-in-row run fuel quantity Cold e g = rw (e, g)

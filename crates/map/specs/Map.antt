@@ -1,4 +1,4 @@
--- The map's rows and figures (document 01, "Sheet, report, map").
+-- The map's rows and figures (SPECIFICATION, "Map").
 -- Assumes nothing.
 use Prim.Native.Nat.{ℕ, _-_}
 use mathlib.Core.Bool.{Bool, not, cond, _&&_}
@@ -14,7 +14,6 @@ use Rattle.inventory.specs.Printed.{kindPlace, printedKind, totalGrounds}
 use Rattle.map.specs.declared.Row.{Row}
 use Rattle.map.specs.declared.RowAnswer.{RowAnswer}
 use Rattle.map.specs.declared.RowAnswer.the-variants as rows
-use Rattle.map.specs.declared.Figure.{Figure}
 use Rattle.map.specs.declared.Figure.the-variants.{Grams, NotGiven}
 use Rattle.map.specs.declared.FigureAnswer.{FigureAnswer}
 use Rattle.map.specs.declared.FigureAnswer.the-variants as figures
@@ -25,7 +24,7 @@ unfoldable pub rowGrams : Run → ℕ → ℕ → List ℕ
 rowGrams run fuel quantity =
     printedKind run fuel quantity 0 ∷ printedKind run fuel quantity 1 ∷ printedKind run fuel quantity 2 ∷ printedKind run fuel quantity 3 ∷ []
 
--- an answer as document 01 gives it: its number, 0 where it is given, and its floats, none where it is refused
+-- an answer: its number, 0 where it is given, and its floats, none where it is refused
 pub record RowGiven : Type 0 where
   pub number : ℕ
   pub floats : List Float
@@ -35,7 +34,7 @@ unfoldable pub rowAnswer : RowAnswer → RowGiven
 rowAnswer (rows.Given row) = record { number = 0; floats = row .urban ∷ row .rural ∷ row .highway ∷ row .cold ∷ [] }
 rowAnswer (rows.Refused r) = record { number = refusalNumber r; floats = [] }
 
--- 16, then 11, as for a total; fuel and quantity as document 01 numbers them, from 1
+-- 16, then 11, as for a total; fuel and quantity count from 1 here
 unfoldable pub rowNumber : Run → ℕ → ℕ → ℕ
 rowNumber run fuel quantity = firstFit (totalGrounds run fuel quantity)
 
@@ -61,7 +60,7 @@ fieldOf row Cold = row .cold
 unfoldable pub notGiven : ℕ → ℕ → Bool
 notGiven fuel quantity = eqb quantity 4 && not (eqb fuel 2)
 
--- a figure as document 01 gives it: its number, whether it is given, and its float, none where it is not given or refused
+-- a figure: its number, whether it is given, and its float, none where it is not given or refused
 pub record FigureGiven : Type 0 where
   pub number : ℕ
   pub given : ℕ

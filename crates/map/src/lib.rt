@@ -2,6 +2,7 @@
 ghost use mathlib.Core.Path.{_≡_};
 ghost use Prim.Native.Nat.{_<_, _^_};
 ghost use Rattle.map.specs.Floats.{Exactly, AllExact};
+ghost use Rattle.map.specs.Claim.{FigureClaim};
 ghost use Rattle.map.specs.Map.{rowAnswer, rowOf, rowWhole, figureAnswer, figureOf, figureWhole, fieldOf};
 use inventory::Kind;
 use inventory::Run;
@@ -61,7 +62,7 @@ pub fn row_of(run: Run, fuel: u64, quantity: u64) -> RowAnswer
     ensures answer { λ r. ⌜ rowAnswer r ≡ rowOf run fuel quantity ⌝ }
     ensures exact { λ r. ⌜ AllExact (rowWhole run fuel quantity) (rowAnswer r .floats) ⌝ }
 {
-    let v = inventory::question_verdict(run, fuel, quantity);
+    let v = totals::question_verdict(run, fuel, quantity);
     match v {
         Verdict::Refused(x) => {
             return RowAnswer::Refused(x);
@@ -69,10 +70,10 @@ pub fn row_of(run: Run, fuel: u64, quantity: u64) -> RowAnswer
         Verdict::Taken => {}
     }
     let j = (fuel as usize - 1) * 20 + (quantity as usize - 1) * 4;
-    let u = inventory::kind_at(run, j);
-    let r = inventory::kind_at(run, j + 1);
-    let h = inventory::kind_at(run, j + 2);
-    let c = inventory::kind_at(run, j + 3);
+    let u = printed::kind_at(run, j);
+    let r = printed::kind_at(run, j + 1);
+    let h = printed::kind_at(run, j + 2);
+    let c = printed::kind_at(run, j + 3);
     RowAnswer::Given(Row {
         urban: exact_float(u),
         rural: exact_float(r),
@@ -102,3 +103,8 @@ pub fn figure_of(run: Run, fuel: u64, quantity: u64, kind: Kind) -> FigureAnswer
         }
     }
 }
+
+// Does nothing: its contract is that a figure is the row's field.
+pub fn figure_claim()
+    ensures { λ r. ⌜ FigureClaim ⌝ }
+{}

@@ -1,6 +1,7 @@
-// Asks for CO2, SO2, lead, and the map's rows and figures, as standard input lists them, one call to a line, and prints
-// each line with the answers. The expected output comes from tools/questions.py, which calculates it from document 01
-// alone.
+// Asks for CO2, SO2, lead, rows and figures as standard input lists them; tools/questions.py has the expected answers.
+use inventory::Head;
+use inventory::Printed;
+use inventory::Record;
 use inventory::Run;
 use libc::STDOUT_FILENO;
 use map::Figure;
@@ -8,12 +9,32 @@ use map::FigureAnswer;
 use map::Row;
 use map::RowAnswer;
 
+// A space and a number.
+fn print(n: u64) {
+    io::write_all(STDOUT_FILENO, b" ");
+    io::print_decimal(STDOUT_FILENO, n);
+}
+
+// The bytes from a place to another.
+fn print_part(b: &[u8], from: usize, to: usize) {
+    if from <= to && to <= b.len() {
+        io::write_all(STDOUT_FILENO, &b[from..to]);
+    }
+}
+
+// An answer in grams: its number and its grams.
+fn print_answer(p: Printed) {
+    let a = harness_runs::answer_of(p);
+    print(a.number);
+    print(a.grams.0);
+}
+
 // A float as the whole number it is; a point behind the whole part of any other.
 fn print_float(x: f64) {
     if x > -1.0 {
         if x < 18446744073709551616.0 {
             let n = std::num::truncating_f64_to_u64(x);
-            harness::print(n);
+            print(n);
             if std::num::nearest_u64_to_f64(n) == x {
                 return;
             }
@@ -34,11 +55,11 @@ fn print_row(row: Row) {
 fn print_row_answer(a: RowAnswer) {
     match a {
         RowAnswer::Given(row) => {
-            harness::print(0);
+            print(0);
             print_row(row);
         }
         RowAnswer::Refused(x) => {
-            harness::print(units::refusal_number(x));
+            print(units::refusal_number(x));
         }
     }
 }
@@ -59,33 +80,55 @@ fn print_figure(f: Figure) {
 fn print_figure_answer(a: FigureAnswer) {
     match a {
         FigureAnswer::Given(f) => {
-            harness::print(0);
+            print(0);
             print_figure(f);
         }
         FigureAnswer::Refused(x) => {
-            harness::print(units::refusal_number(x));
+            print(units::refusal_number(x));
         }
     }
 }
 
+// The run that opening gives; its number is printed.
+fn opening(head: Head) -> Run {
+    let o = recording::open_run(head);
+    let v = o.verdict;
+    print(units::verdict_number(v));
+    o.run
+}
+
+// The run after the record was added so many times; the last number and the count are printed.
+fn adding(run: Run, rec: Record, times: u64) -> Run {
+    let a = harness_adds::add_times(run, rec, times);
+    let v = a.verdict;
+    let r = a.run;
+    print(units::verdict_number(v));
+    print(r.count);
+    r
+}
+
 // The run after a line that changes it.
 fn changed(b: &[u8], at: usize, run: Run) -> Run {
-    let c = harness::byte_at(b, at);
+    let c = harness_lines::byte_at(b, at);
     // open L T..
     if c == b'o' {
-        return harness::opening(harness::head_of(b, at));
+        return opening(harness_records::head_of(b, at));
     }
     // add TIMES CLASS VEHICLES KM SHARES SPEEDS
     if c == b'a' {
-        return harness::adding(run, harness::record_of(b, at), harness::number(b, at, 1));
+        return adding(
+            run,
+            harness_records::record_of(b, at),
+            harness_lines::number(b, at, 1),
+        );
     }
     // put FIELD INDEX VALUE
     if c == b'p' {
-        return harness::setting(
+        return harness_runs::set_field(
             run,
-            harness::number(b, at, 1),
-            harness::number(b, at, 2),
-            harness::number(b, at, 3),
+            harness_lines::number(b, at, 1),
+            harness_lines::number(b, at, 2),
+            harness_lines::number(b, at, 3),
         );
     }
     run
@@ -93,29 +136,41 @@ fn changed(b: &[u8], at: usize, run: Run) -> Run {
 
 // What a line asks of a run.
 fn asked(b: &[u8], at: usize, run: Run) {
-    let c = harness::byte_at(b, at);
+    let c = harness_lines::byte_at(b, at);
     if c == b'c' {
-        harness::print_answer(fuel::co2(run, harness::number(b, at, 1), harness::number(b, at, 2)));
+        print_answer(fuel::co2(
+            run,
+            harness_lines::number(b, at, 1),
+            harness_lines::number(b, at, 2),
+        ));
     }
     if c == b's' {
-        harness::print_answer(fuel::so2(run, harness::number(b, at, 1), harness::number(b, at, 2)));
+        print_answer(fuel::so2(
+            run,
+            harness_lines::number(b, at, 1),
+            harness_lines::number(b, at, 2),
+        ));
     }
     if c == b'l' {
-        harness::print_answer(fuel::lead(
+        print_answer(fuel::lead(
             run,
-            harness::number(b, at, 1),
-            harness::number(b, at, 2),
+            harness_lines::number(b, at, 1),
+            harness_lines::number(b, at, 2),
         ));
     }
     if c == b'r' {
-        print_row_answer(map::row_of(run, harness::number(b, at, 1), harness::number(b, at, 2)));
+        print_row_answer(map::row_of(
+            run,
+            harness_lines::number(b, at, 1),
+            harness_lines::number(b, at, 2),
+        ));
     }
     if c == b'f' {
-        let kind = harness::kind_of(harness::number(b, at, 3));
+        let kind = harness_runs::kind_of(harness_lines::number(b, at, 3));
         print_figure_answer(map::figure_of(
             run,
-            harness::number(b, at, 1),
-            harness::number(b, at, 2),
+            harness_lines::number(b, at, 1),
+            harness_lines::number(b, at, 2),
             kind,
         ));
     }
@@ -123,7 +178,7 @@ fn asked(b: &[u8], at: usize, run: Run) {
 
 // One line: the line itself, then the answers.
 fn line(b: &[u8], at: usize, run: Run) -> Run {
-    harness::print_part(b, at, harness::line_end(b, at));
+    print_part(b, at, harness_lines::line_end(b, at));
     io::write_all(STDOUT_FILENO, b" =");
     let r = changed(b, at, run);
     asked(b, at, r);
@@ -138,13 +193,18 @@ fn lines(b: &[u8]) {
     let mut turns: u64 = 0;
     while turns < 100000 && at < b.len() {
         run = line(b, at, run);
-        at = harness::behind(b, harness::line_end(b, at));
+        at = harness_lines::behind(b, harness_lines::line_end(b, at));
         turns += 1;
     }
 }
 
+// Room for the cases.
+fn space() -> [u8; 262144] {
+    [0; 262144]
+}
+
 fn main() {
-    let mut b = harness::space();
+    let mut b = space();
     let n = io::read_full(0, &mut b);
     lines(&b[..n]);
 }

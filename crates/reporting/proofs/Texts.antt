@@ -17,11 +17,11 @@ use Rattle.inventory.specs.declared.Run.{Run}
 use Rattle.inventory.specs.Order.{inOrder}
 use Rattle.listing.specs.declared.Reported.{Reported}
 use Rattle.listing.specs.declared.Reported.the-variants.{Written, Refused}
-use Rattle.listing.specs.Report.{reportBytes, reportGrounds, reportNumber, reportOf, reportBuffer, reportedAnswer}
-use Rattle.listing.proofs.Stores.{Wrote, start, more, sets-front}
+use Rattle.listing.specs.Report.{reportBytes, reportGrounds, reportNumber, reportOf, written, reportBuffer, reportedAnswer}
+use Rattle.writing.proofs.Stores.{Wrote, start, more, sets-front}
 use Rattle.sheet.specs.Sheet.{sheetNumber, sheetLine, sheetRun}
-use Rattle.sheet.proofs.Form.{whole}
-use Rattle.reporting.specs.Reporting.{refusedWord, refusedLine, sheetText, textGrounds, answerFor, placed, textOf, textBuffer}
+use Rattle.form.proofs.Form.{whole}
+use Rattle.reporting.specs.Reporting.{textNumber, textLine, refusedWord, refusedLine, sheetText, textGrounds, answerFor, placed, textOf, textBuffer}
 
 -- ---- a text in a buffer b
 
@@ -32,7 +32,7 @@ module _ (t b : List ℕ) where
 
   pub room : (n : ℕ) (after : List ℕ) → length t ≤ length b → n ≡ length t → after ≡ sets b 0 t
       → (reportedAnswer (Written n) ≡ answerFor t b) × (after ≡ placed t b)
-  unfolding reportedAnswer answerFor placed textGrounds firstFit
+  unfolding reportedAnswer answerFor placed written textGrounds firstFit
   room n after h e s = (rw (le-ltb (length b) (length t) h, e), rw (le-ltb (length b) (length t) h) (s ∙ sets-front b t h))
 
 -- ---- the line of a refused sheet
@@ -55,25 +55,37 @@ taken-ordered : (bytes : List ℕ) → sheetNumber bytes ≡ 0 → inOrder (shee
 taken-ordered bytes z = let f = whole .only bytes z in whole .near bytes (f .0) (f .1) (f .2) .ordered
 
 module _ (bytes : List ℕ) where
-  pub too-long : 65536 < length bytes → refusedLine 10 1 ≡ sheetText bytes
-  unfolding sheetText
-  too-long h = rw (lt-ltb 65536 (length bytes) h)
+  pub long-number : 65536 < length bytes → textNumber bytes ≡ 10
+  unfolding textNumber
+  long-number h = rw (lt-ltb 65536 (length bytes) h)
 
-  pub refused-text : length bytes ≤ 65536 → (n line : ℕ) → n ≡ sheetNumber bytes → eqb n 0 ≡ false → line ≡ sheetLine bytes → refusedLine n line ≡ sheetText bytes
-  unfolding sheetText
-  refused-text h n line e z l = rw (le-ltb 65536 (length bytes) h, ← e, z, l)
+  pub long-line : 65536 < length bytes → textLine bytes ≡ 1
+  unfolding textLine
+  long-line h = rw (lt-ltb 65536 (length bytes) h)
 
-  pub taken-text : length bytes ≤ 65536 → sheetNumber bytes ≡ 0 → reportBytes (sheetRun bytes) ≡ sheetText bytes
+  pub own-number : length bytes ≤ 65536 → textNumber bytes ≡ sheetNumber bytes
+  unfolding textNumber
+  own-number h = rw (le-ltb 65536 (length bytes) h)
+
+  pub own-line : length bytes ≤ 65536 → textLine bytes ≡ sheetLine bytes
+  unfolding textLine
+  own-line h = rw (le-ltb 65536 (length bytes) h)
+
+  pub refused-text : (n line : ℕ) → n ≡ textNumber bytes → eqb n 0 ≡ false → line ≡ textLine bytes → refusedLine n line ≡ sheetText bytes
   unfolding sheetText
-  taken-text h e = rw (le-ltb 65536 (length bytes) h, e)
+  refused-text n line e z l = rw (← e, z, l)
+
+  taken-text : textNumber bytes ≡ 0 → reportBytes (sheetRun bytes) ≡ sheetText bytes
+  unfolding sheetText
+  taken-text e = rw e
 
 -- the report of a run in order is a text in a buffer
-pub report-answer : (run : Run) (b : List ℕ) → inOrder run ≡ true → reportOf run b ≡ answerFor (reportBytes run) b
+report-answer : (run : Run) (b : List ℕ) → inOrder run ≡ true → reportOf run b ≡ answerFor (reportBytes run) b
 unfolding reportOf reportNumber reportGrounds answerFor textGrounds firstFit
 report-answer run b o = rw o
 
-pub report-placed : (run : Run) (b : List ℕ) → inOrder run ≡ true → reportBuffer run b ≡ placed (reportBytes run) b
-unfolding reportBuffer reportNumber reportGrounds placed textGrounds firstFit
+report-placed : (run : Run) (b : List ℕ) → inOrder run ≡ true → reportBuffer run b ≡ placed (reportBytes run) b
+unfolding reportBuffer reportNumber reportGrounds placed written textGrounds firstFit
 report-placed run b o = rw o
 
 -- an answer for the right text
@@ -86,5 +98,5 @@ pub text-report : (bytes b after : List ℕ) (run : Run) (r : Reported) → leng
     → reportedAnswer r ≡ reportOf run b → after ≡ reportBuffer run b → (reportedAnswer r ≡ textOf bytes b) × (after ≡ textBuffer bytes b)
 text-report bytes b after run r h z e a p =
     let o = taken-ordered bytes z in
-    text-by (reportBytes (sheetRun bytes)) bytes b after r (taken-text bytes h z)
+    text-by (reportBytes (sheetRun bytes)) bytes b after r (taken-text bytes (own-number bytes h ∙ z))
     (a ∙ ap (λ (u : Run). reportOf u b) e ∙ report-answer (sheetRun bytes) b o) (p ∙ ap (λ (u : Run). reportBuffer u b) e ∙ report-placed (sheetRun bytes) b o)

@@ -13,19 +13,18 @@ use borrow.Author.Tests.{ltb-true, ltb-false}
 use Rattle.inventory.specs.declared.Head.{Head}
 use Rattle.inventory.specs.declared.Record.{Record}
 use Rattle.inventory.specs.declared.Run.{Run}
-use Rattle.inventory.specs.Order.{inOrder}
 use Rattle.inventory.specs.Opening.{openNumber, openRun}
 use Rattle.inventory.specs.Adding.{addNumber, addRun}
-use Rattle.accuracy.specs.Claim.{runAfter}
-use Rattle.accuracy.proofs.Whole.{every-list}
+use Rattle.lines.specs.declared.RecordLine.{RecordLine}
+use Rattle.lines.specs.declared.HeadLine.{HeadLine}
+use Rattle.lines.specs.Lines.{lines, headWidths, recordWidths, total, fields, numbersIn, numbersOf}
+use Rattle.lines.specs.Records.{andThen, countsOf, headWith, headOf, recordWith, recordOf}
+use Rattle.lines.specs.Reading.{fieldsFrom, countsIn, together, recordLine, headCase}
+use Rattle.lines.proofs.Lines.{lineLength, first-line, line-cases, too-short, no-lf, whole-line, line-numbers}
+use Rattle.lines.proofs.Counts.{fields-from, sumList, counts-good, counts-bad}
 use Rattle.sheet.specs.declared.Sheet.{Sheet}
-use Rattle.sheet.specs.declared.RecordLine.{RecordLine}
-use Rattle.sheet.specs.declared.HeadLine.{HeadLine}
-use Rattle.sheet.specs.Lines.{lines, headWidths, recordWidths, total, fields, numbersIn, numbersOf}
-use Rattle.sheet.specs.Sheet.{andThen, countsOf, headWith, headOf, recordWith, recordOf, Outcome, refusedAt, decided, fromRecords, fromHead, sheetOf}
-use Rattle.sheet.specs.Reading.{fieldsFrom, countsIn, together, recordLine, headCase, Gives}
-use Rattle.sheet.proofs.Lines.{lineLength, first-line, line-cases, too-short, no-lf, whole-line, line-numbers}
-use Rattle.sheet.proofs.Counts.{fields-from, sumList, counts-good, counts-bad}
+use Rattle.sheet.specs.Sheet.{Outcome, refusedAt, decided, fromRecords, fromHead, sheetOf}
+use Rattle.sheet.specs.Reading.{Gives}
 
 -- an answer gives what it gives, however that is written
 pub gives-by : {r : Sheet} {a b : Outcome} → a ≡ b → Gives r a → Gives r b
@@ -202,8 +201,3 @@ no-head r (some head) e h = let y : _≡_ {A = Bool} true false = sym (ap (λ (q
 pub its-head : (r : HeadLine) (o : Option Head) → r ≡ headCase o → r .ok ≡ true → o ≡ some (r .head)
 its-head r none e h = let y : _≡_ {A = Bool} false true = sym (ap (λ (q : HeadLine). q .ok) e) ∙ h in let z : _≡_ {A = ℕ} 0 1 = cc in absurd (omega arith)
 its-head r (some head) e h = ap (λ (q : HeadLine). some (q .head)) (sym e)
-
--- a run that opening gave is in order
-pub opened-order : (head : Head) → openNumber head ≡ 0 → inOrder (openRun head) ≡ true
-unfolding runAfter
-opened-order head z = every-list head z .list [] .ordered

@@ -1,5 +1,2 @@
-pub mod Lines
 pub mod Sheet
-pub mod Rendering
-pub mod Claim
 pub mod Reading

@@ -1,86 +1,56 @@
 // Reads the sheets that standard input holds, and prints the answer for each. The expected output comes from
-// tools/sheets.py, which calculates it from document 01 alone.
+// tools/sheets.py, which calculates it from the specification alone.
 //
 // `+ TIMES BYTES` and a line end, then that many bytes and a line end: the bytes stand so many times in the sheet.
 // `= LABEL` and a line end: the sheet is whole. Its answer is the label, the number, the line, and the word `zeros` for a
 // run of zeros, else every field of the run and the printed totals.
-use inventory::Printed;
 use inventory::Run;
 use libc::STDOUT_FILENO;
 use sheet::Sheet;
 
-// Room for the cases.
-fn case_space() -> [u8; 524288] {
-    [0; 524288]
+// A space and a number.
+fn print(n: u64) {
+    io::write_all(STDOUT_FILENO, b" ");
+    io::print_decimal(STDOUT_FILENO, n);
 }
 
-// A printed total; 0 where it is refused, which no run of a sheet is.
-fn print_total(p: Printed) {
-    match p {
-        Printed::Given(g) => {
-            harness::print(g.0);
-        }
-        Printed::Refused(x) => {
-            harness::print(0);
-        }
+// The bytes from a place to another.
+fn print_part(b: &[u8], from: usize, to: usize) {
+    if from <= to && to <= b.len() {
+        io::write_all(STDOUT_FILENO, &b[from..to]);
     }
 }
 
+// Every number of a run.
+fn print_fields(run: Run) {
+    let mut i: usize = 0;
+    while i < 140 {
+        print(harness_runs::field_at(run, i));
+        i += 1;
+    }
+}
+
+// The five totals of a fuel; 0 for one that is refused, which none of a sheet's run is.
 fn print_totals(run: Run, fuel: u64) {
     let mut q: u64 = 1;
     while q < 6 {
-        print_total(inventory::total(run, fuel, q));
+        let a = harness_runs::answer_of(totals::total(run, fuel, q));
+        print(a.grams.0);
         q += 1;
     }
 }
 
-// Whether every X is 0.
-fn zero_x(run: Run) -> bool {
-    let mut zero = true;
-    let mut k: usize = 0;
-    while k < 15 {
-        if run.x[k] != 0 {
-            zero = false;
-        }
-        k += 1;
-    }
-    zero
-}
-
-// Whether the kilometres of every fuel are 0.
-fn zero_km(run: Run) -> bool {
-    let mut zero = true;
-    let mut k: usize = 0;
-    while k < 3 {
-        let m = run.km[k];
-        if m.0 != 0 {
-            zero = false;
-        }
-        k += 1;
-    }
-    zero
-}
-
-// Whether every sum is 0.
-fn zero_sums(run: Run) -> bool {
-    let mut zero = true;
-    let mut k: usize = 0;
-    while k < 60 {
-        let m = run.grams[k];
-        if m.0 != 0 {
-            zero = false;
-        }
-        if run.rests[k] != 0 {
-            zero = false;
-        }
-        k += 1;
-    }
-    zero
-}
-
 // Whether a run is the run of zeros.
 fn is_zero(run: Run) -> bool {
-    run.trip == 0 && run.count == 0 && zero_x(run) && zero_km(run) && zero_sums(run)
+    let mut zero = true;
+    let mut i: usize = 0;
+    while i < 140 {
+        if harness_runs::field_at(run, i) != 0 {
+            zero = false;
+        }
+        i += 1;
+    }
+    zero
 }
 
 // The word `zeros`, or every field and the totals.
@@ -89,7 +59,7 @@ fn print_run(run: Run) {
         io::write_all(STDOUT_FILENO, b" zeros");
         return;
     }
-    harness::print_fields(run);
+    print_fields(run);
     print_totals(run, 1);
     print_totals(run, 2);
     print_totals(run, 3);
@@ -98,8 +68,8 @@ fn print_run(run: Run) {
 // The number, the line and the run of a sheet.
 fn print_sheet(s: Sheet) {
     let v = s.verdict;
-    harness::print(units::verdict_number(v));
-    harness::print(s.line as u64);
+    print(units::verdict_number(v));
+    print(s.line as u64);
     print_run(s.run);
 }
 
@@ -125,8 +95,8 @@ fn append(b: &[u8], from: usize, n: u64, bytes: &mut [u8], len: usize) -> usize 
     let mut to = len;
     let mut i: u64 = 0;
     while i < n {
-        to = store(bytes, to, harness::byte_at(b, at));
-        at = harness::behind(b, at);
+        to = store(bytes, to, harness_lines::byte_at(b, at));
+        at = harness_lines::behind(b, at);
         i += 1;
     }
     to
@@ -148,7 +118,7 @@ fn skip(b: &[u8], at: usize, n: u64) -> usize {
     let mut to = at;
     let mut i: u64 = 0;
     while i < n {
-        to = harness::behind(b, to);
+        to = harness_lines::behind(b, to);
         i += 1;
     }
     to
@@ -156,27 +126,31 @@ fn skip(b: &[u8], at: usize, n: u64) -> usize {
 
 // The place of the line behind this one, and behind its bytes.
 fn next(b: &[u8], at: usize) -> usize {
-    let to = harness::behind(b, harness::line_end(b, at));
-    if harness::byte_at(b, at) == b'+' {
-        return harness::behind(b, skip(b, to, harness::number(b, at, 2)));
+    let to = harness_lines::behind(b, harness_lines::line_end(b, at));
+    if harness_lines::byte_at(b, at) == b'+' {
+        return harness_lines::behind(b, skip(b, to, harness_lines::number(b, at, 2)));
     }
     to
 }
 
 // The sheet's length after a line; a whole sheet is answered, and the next one is empty.
 fn line(b: &[u8], at: usize, bytes: &mut [u8], len: usize) -> usize {
-    if harness::byte_at(b, at) == b'+' {
-        let from = harness::behind(b, harness::line_end(b, at));
+    if harness_lines::byte_at(b, at) == b'+' {
+        let from = harness_lines::behind(b, harness_lines::line_end(b, at));
         return append_times(
             b,
             from,
-            harness::number(b, at, 2),
+            harness_lines::number(b, at, 2),
             bytes,
             len,
-            harness::number(b, at, 1),
+            harness_lines::number(b, at, 1),
         );
     }
-    harness::print_part(b, harness::word(b, at, 1), harness::line_end(b, at));
+    print_part(
+        b,
+        harness_lines::word(b, at, 1),
+        harness_lines::line_end(b, at),
+    );
     io::write_all(STDOUT_FILENO, b" =");
     answer(bytes, len);
     io::write_all(STDOUT_FILENO, b"\n");
@@ -195,9 +169,19 @@ fn lines(b: &[u8], bytes: &mut [u8]) {
     }
 }
 
+// Room for the cases.
+fn case_space() -> [u8; 524288] {
+    [0; 524288]
+}
+
+// Room for one sheet.
+fn sheet_space() -> [u8; 262144] {
+    [0; 262144]
+}
+
 fn main() {
     let mut b = case_space();
-    let mut bytes = harness::space();
+    let mut bytes = sheet_space();
     let n = io::read_full(0, &mut b);
     lines(&b[..n], &mut bytes);
 }

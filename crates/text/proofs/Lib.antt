@@ -1,4 +1,2 @@
 pub mod Write
 pub mod Value
-pub mod Read
-pub mod RoundTrip

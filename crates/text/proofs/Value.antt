@@ -8,12 +8,7 @@ use native.Mathlib.Nat.{pow-succ'}
 use native.Mathlib.Omega.{arith}
 use lib.Dec.{eqb}
 use borrow.Author.Tests.{eqb-true}
-use Rattle.text.specs.Render.{glyphOf, pad, render}
-
--- the number that bytes say behind the digits of a; a space counts as 0, as 32 - 48 is 0
-abbrev pub digitsValue : ℕ → List ℕ → ℕ
-digitsValue a [] = a
-digitsValue a (b ∷ bs) = digitsValue (10 * a + (b - 48)) bs
+use Rattle.text.specs.Render.{glyphOf, pad, render, digitsValue}
 
 value-append : (a : ℕ) (xs ys : List ℕ) → digitsValue a (xs ++ ys) ≡ digitsValue (digitsValue a xs) ys
 value-append a [] ys = refl

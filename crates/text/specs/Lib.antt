@@ -1,3 +1,1 @@
 pub mod Render
-pub mod Field
-pub mod Reading

@@ -1,6 +1,6 @@
 -- A number as a field: its digits right-justified in so many bytes, with spaces before them.
 -- Assumes nothing.
-use Prim.Native.Nat.{ℕ, zero, suc, _+_, _/_, _%_}
+use Prim.Native.Nat.{ℕ, zero, suc, _+_, _-_, _*_, _/_, _%_}
 use mathlib.Core.Bool.{cond}
 use mathlib.Core.List.{List, [], _∷_, _++_}
 use lib.Dec.{eqb}
@@ -23,3 +23,8 @@ render (suc w) n = pad w (n / 10) ++ ((48 + n % 10) ∷ [])
 unfoldable pub renderMinus : ℕ → ℕ → List ℕ
 renderMinus zero n = 45 ∷ []
 renderMinus (suc w) n = cond (eqb n 0) (pad w 0 ++ (45 ∷ [])) (renderMinus w (n / 10) ++ ((48 + n % 10) ∷ []))
+
+-- the number that bytes say behind the digits of a; a space counts as 0, as 32 - 48 is 0
+abbrev pub digitsValue : ℕ → List ℕ → ℕ
+digitsValue a [] = a
+digitsValue a (b ∷ bs) = digitsValue (10 * a + (b - 48)) bs

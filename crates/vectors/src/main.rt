@@ -1,23 +1,54 @@
-// Makes the calls that standard input lists, one to a line, and prints each line with the answers. The expected
-// output comes from tools/vectors.py, which calculates it from document 01 alone.
-use fuel::Balanced;
+// Makes the calls that standard input lists, one to a line; tools/vectors.py has the expected answers.
+use balance::Balanced;
+use inventory::Head;
 use inventory::Kind;
+use inventory::Printed;
+use inventory::Record;
 use inventory::Run;
 use libc::STDOUT_FILENO;
 use listing::Reported;
+
+// A space and a number.
+fn print(n: u64) {
+    io::write_all(STDOUT_FILENO, b" ");
+    io::print_decimal(STDOUT_FILENO, n);
+}
+
+// The bytes from a place to another.
+fn print_part(b: &[u8], from: usize, to: usize) {
+    if from <= to && to <= b.len() {
+        io::write_all(STDOUT_FILENO, &b[from..to]);
+    }
+}
+
+// An answer in grams: its number and its grams.
+fn print_answer(p: Printed) {
+    let a = harness_runs::answer_of(p);
+    print(a.number);
+    print(a.grams.0);
+}
+
+// Every number of a run.
+fn print_fields(run: Run) {
+    let mut i: usize = 0;
+    while i < 140 {
+        print(harness_runs::field_at(run, i));
+        i += 1;
+    }
+}
 
 // The answer of a balance.
 fn print_balanced(p: Balanced) {
     match p {
         Balanced::Given(f) => {
-            harness::print(0);
-            harness::print(f.k);
-            harness::print(f.grams.0);
+            print(0);
+            print(f.k);
+            print(f.grams.0);
         }
         Balanced::Refused(x) => {
-            harness::print(units::refusal_number(x));
-            harness::print(0);
-            harness::print(0);
+            print(units::refusal_number(x));
+            print(0);
+            print(0);
         }
     }
 }
@@ -26,34 +57,56 @@ fn print_balanced(p: Balanced) {
 fn print_reported(p: Reported) {
     match p {
         Reported::Written(n) => {
-            harness::print(0);
-            harness::print(n as u64);
+            print(0);
+            print(n as u64);
         }
         Reported::Refused(x) => {
-            harness::print(units::refusal_number(x));
-            harness::print(0);
+            print(units::refusal_number(x));
+            print(0);
         }
     }
 }
 
+// The run that opening gives; its number is printed.
+fn opening(head: Head) -> Run {
+    let o = recording::open_run(head);
+    let v = o.verdict;
+    print(units::verdict_number(v));
+    o.run
+}
+
+// The run after the record was added so many times; the last number and the count are printed.
+fn adding(run: Run, rec: Record, times: u64) -> Run {
+    let a = harness_adds::add_times(run, rec, times);
+    let v = a.verdict;
+    let r = a.run;
+    print(units::verdict_number(v));
+    print(r.count);
+    r
+}
+
 // The run after a line that changes it.
 fn changed(b: &[u8], at: usize, run: Run) -> Run {
-    let c = harness::byte_at(b, at);
+    let c = harness_lines::byte_at(b, at);
     // open L T..
     if c == b'o' {
-        return harness::opening(harness::head_of(b, at));
+        return opening(harness_records::head_of(b, at));
     }
     // add TIMES CLASS VEHICLES KM SHARES SPEEDS
     if c == b'a' {
-        return harness::adding(run, harness::record_of(b, at), harness::number(b, at, 1));
+        return adding(
+            run,
+            harness_records::record_of(b, at),
+            harness_lines::number(b, at, 1),
+        );
     }
     // set FIELD INDEX VALUE
     if c == b's' {
-        return harness::setting(
+        return harness_runs::set_field(
             run,
-            harness::number(b, at, 1),
-            harness::number(b, at, 2),
-            harness::number(b, at, 3),
+            harness_lines::number(b, at, 1),
+            harness_lines::number(b, at, 2),
+            harness_lines::number(b, at, 3),
         );
     }
     run
@@ -72,13 +125,13 @@ fn list_fuel(run: Run, fuel: u64) {
     let mut q: u64 = 1;
     while q < 6 {
         io::write_all(STDOUT_FILENO, b"\n ");
-        harness::print(fuel);
-        harness::print(q);
-        harness::print_answer(inventory::kind_total(run, fuel, q, Kind::Urban));
-        harness::print_answer(inventory::kind_total(run, fuel, q, Kind::Rural));
-        harness::print_answer(inventory::kind_total(run, fuel, q, Kind::Highway));
-        harness::print_answer(inventory::kind_total(run, fuel, q, Kind::Cold));
-        harness::print_answer(inventory::total(run, fuel, q));
+        print(fuel);
+        print(q);
+        print_answer(totals::kind_total(run, fuel, q, Kind::Urban));
+        print_answer(totals::kind_total(run, fuel, q, Kind::Rural));
+        print_answer(totals::kind_total(run, fuel, q, Kind::Highway));
+        print_answer(totals::kind_total(run, fuel, q, Kind::Cold));
+        print_answer(totals::total(run, fuel, q));
         q += 1;
     }
 }
@@ -114,45 +167,45 @@ fn reporting(run: Run, size: u64) {
 
 // What a line asks of a run.
 fn asked(b: &[u8], at: usize, run: Run) {
-    let c = harness::byte_at(b, at);
+    let c = harness_lines::byte_at(b, at);
     if c == b't' {
-        harness::print_answer(inventory::total(
+        print_answer(totals::total(
             run,
-            harness::number(b, at, 1),
-            harness::number(b, at, 2),
+            harness_lines::number(b, at, 1),
+            harness_lines::number(b, at, 2),
         ));
     }
     if c == b'k' {
-        let kind = harness::kind_of(harness::number(b, at, 3));
-        harness::print_answer(inventory::kind_total(
+        let kind = harness_runs::kind_of(harness_lines::number(b, at, 3));
+        print_answer(totals::kind_total(
             run,
-            harness::number(b, at, 1),
-            harness::number(b, at, 2),
+            harness_lines::number(b, at, 1),
+            harness_lines::number(b, at, 2),
             kind,
         ));
     }
     if c == b'b' {
-        print_balanced(fuel::balance(
+        print_balanced(balance::balance(
             run,
-            harness::number(b, at, 1),
-            harness::number(b, at, 2),
-            harness::number(b, at, 3),
+            harness_lines::number(b, at, 1),
+            harness_lines::number(b, at, 2),
+            harness_lines::number(b, at, 3),
         ));
     }
     if c == b'r' {
-        reporting(run, harness::number(b, at, 1));
+        reporting(run, harness_lines::number(b, at, 1));
     }
     if c == b'l' {
         list_all(run);
     }
     if c == b'f' {
-        harness::print_fields(run);
+        print_fields(run);
     }
 }
 
 // One line: the line itself, then the answers.
 fn line(b: &[u8], at: usize, run: Run) -> Run {
-    harness::print_part(b, at, harness::line_end(b, at));
+    print_part(b, at, harness_lines::line_end(b, at));
     io::write_all(STDOUT_FILENO, b" =");
     let r = changed(b, at, run);
     asked(b, at, r);
@@ -167,13 +220,18 @@ fn lines(b: &[u8]) {
     let mut turns: u64 = 0;
     while turns < 100000 && at < b.len() {
         run = line(b, at, run);
-        at = harness::behind(b, harness::line_end(b, at));
+        at = harness_lines::behind(b, harness_lines::line_end(b, at));
         turns += 1;
     }
 }
 
+// Room for the cases.
+fn space() -> [u8; 262144] {
+    [0; 262144]
+}
+
 fn main() {
-    let mut b = harness::space();
+    let mut b = space();
     let n = io::read_full(0, &mut b);
     lines(&b[..n]);
 }

@@ -3,7 +3,7 @@ use borrow.Author.Needs.{needs}
 use mathlib.Core.Path.{sym, _∙_}
 use borrow.Author.Tests.{not-true, not-false}
 use Rattle.inventory.proofs.Order.{run-limits}
-use Rattle.listing.proofs.Report.{refused-order, refused-short, written}
+use Rattle.listing.proofs.Report.{refused-order, refused-short, report-written}
 use Rattle.listing.proofs.write_report.Statement.{statement}
 use Rattle.listing.proofs.write_report.Tie as tie
 
@@ -21,7 +21,7 @@ report-length-requires c κs = search needs
 
 returns-2 : tie.Need-returns-2
 returns-2 c =
-    refused-short _ _ (sym (c .before .before .before .before .before .in-order .ensures) ∙ not-false _ (c .before .before .before .before .if1 .left)) _ (c .before .before .before .figures-of .ensures) _
+    refused-short _ _ (sym (c .before .before .before .before .in-order .ensures) ∙ not-false _ (c .before .before .before .if1 .left)) _ (c .before .before .figures-of .ensures) _
     (c .before .report-length .ensures) (c .if2 .taken)
 
 lines-at-requires : tie.Need-lines-at-requires
@@ -32,8 +32,8 @@ same-length c = search needs
 
 returns-3 : tie.Need-returns-3
 returns-3 c =
-    written _ _ (sym (c .before .before .before .before .before .before .before .before .before .before .in-order .ensures) ∙ not-false _ (c .before .before .before .before .before .before .before .before .before .if1 .left)) _ (c .before .before .before .before .before .before .before .before .figures-of .ensures) _
-    (c .before .before .before .before .before .before .report-length .ensures) _ (c .before .before .before .before .before .if2 .left) (c .before .before .lines-at .ensures)
+    report-written _ _ (sym (c .before .before .before .before .before .before .before .before .in-order .ensures) ∙ not-false _ (c .before .before .before .before .before .before .before .if1 .left)) _ (c .before .before .before .before .before .before .figures-of .ensures) _
+    (c .before .before .before .before .before .report-length .ensures) _ (c .before .before .before .before .if2 .left) (c .before .before .lines-at .ensures)
 
 pub write-report-spec : {M : Type 1} → statement M
 write-report-spec =

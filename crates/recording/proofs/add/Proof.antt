@@ -5,7 +5,7 @@ use Rattle.units.specs.Refusals.{verdictNumber, refusalNumber}
 use Rattle.units.proofs.Refusals.{number-positive, taken-number, refused-number}
 use Rattle.inventory.proofs.Order.{run-limits}
 use Rattle.inventory.proofs.Records.{record-limits}
-use Rattle.recording.proofs.Verdicts.{add-unordered, add-ordered, ready, run-kept, run-added}
+use Rattle.recording.proofs.Runs.{add-unordered, add-ordered, ready, run-kept, run-added}
 use borrow.Author.Needs.{needs}
 use Rattle.recording.proofs.add.Statement.{statement}
 use Rattle.recording.proofs.add.Tie as tie

@@ -1,6 +1,6 @@
 -- `recording::add_verdict` meets its contract. Assumes nothing.
 use Rattle.units.specs.Refusals.{verdictNumber, refusalNumber}
-use Rattle.recording.proofs.Verdicts.{add-refused, add-full, add-good}
+use Rattle.recording.proofs.Runs.{add-refused, add-full, add-good}
 use borrow.Author.Needs.{needs}
 use Rattle.recording.proofs.add_verdict.Statement.{statement}
 use Rattle.recording.proofs.add_verdict.Tie as tie

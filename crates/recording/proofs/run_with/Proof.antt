@@ -1,5 +1,5 @@
 -- `recording::run_with` meets its contract. Assumes nothing.
-use Rattle.recording.proofs.Parts.{sums-limits, km-limits, whole}
+use Rattle.sums.proofs.Parts.{sums-limits, km-limits, whole}
 use borrow.Author.Needs.{needs}
 use Rattle.recording.proofs.run_with.Statement.{statement}
 use Rattle.recording.proofs.run_with.Tie as tie

@@ -16,10 +16,10 @@ use Rattle.inventory.specs.Adding.{addRun}
 use Rattle.inventory.proofs.Kept.{order-kept}
 use Rattle.inventory.proofs.Order.{run-limits}
 use Rattle.inventory.proofs.Records.{record-limits}
-use Rattle.recording.specs.declared.WholeGrams.{WholeGrams}
-use Rattle.recording.proofs.Verdicts.{add-ordered, ready, run-added}
-use Rattle.recording.proofs.Parts.{sums-limits, km-limits, whole}
-use Rattle.sheet.specs.Lines.{lines}
+use Rattle.sums.specs.declared.WholeGrams.{WholeGrams}
+use Rattle.recording.proofs.Runs.{add-ordered, ready, run-added}
+use Rattle.sums.proofs.Parts.{sums-limits, km-limits, whole}
+use Rattle.lines.specs.Lines.{lines}
 use Rattle.sheet.specs.Sheet.{fromRecords}
 use Rattle.sheet.proofs.Walk.{gives-by, cut-short, lf-missing, misread, read, not-ok, is-ok, its-record, nine, decided-taken, decided-refused, at-last}
 use borrow.Author.Needs.{needs}

@@ -4,8 +4,9 @@ use native.Mathlib.Omega.{arith}
 use borrow.Author.Tests.{not-true, not-false}
 use Rattle.units.specs.Refusals.{refusalNumber}
 use Rattle.units.proofs.Refusals.{number-positive, taken-number, refused-number}
+use Rattle.recording.proofs.Runs.{opened-order}
 use Rattle.sheet.specs.Sheet.{sheetOf}
-use Rattle.sheet.proofs.Walk.{gives-by, head-short, head-no-lf, head-misread, head-read, no-head, its-head, decided-taken, decided-refused, opened-order}
+use Rattle.sheet.proofs.Walk.{gives-by, head-short, head-no-lf, head-misread, head-read, no-head, its-head, decided-taken, decided-refused}
 use borrow.Author.Needs.{needs}
 use Rattle.sheet.proofs.read_sheet.Statement.{statement}
 use Rattle.sheet.proofs.read_sheet.Tie as tie

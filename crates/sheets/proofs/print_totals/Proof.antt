@@ -16,8 +16,11 @@ loop-holds c = search needs
 total-requires : tie.Need-total-requires Inv-loop μ-loop
 total-requires c κs = search needs
 
-print-total-requires : tie.Need-print-total-requires Inv-loop μ-loop
-print-total-requires c κs = search needs
+answer-of-requires : tie.Need-answer-of-requires Inv-loop μ-loop
+answer-of-requires c κs = search needs
+
+print-requires : tie.Need-print-requires Inv-loop μ-loop
+print-requires c κs = search needs
 
 add-q : tie.Need-add-q Inv-loop μ-loop
 add-q c = search needs
@@ -39,7 +42,8 @@ print-totals-spec =
     μ-loop
     loop-holds
     total-requires
-    print-total-requires
+    answer-of-requires
+    print-requires
     add-q
     loop-less
     loop-again

@@ -1,0 +1,91 @@
+-- Each call has the number that the conditions of specs/Conditions give. Assumes nothing.
+use mathlib.Core.Path.{_≡_, refl, sym, _∙_}
+use mathlib.Core.Bool.{Bool, true, false, not, cond, _&&_, _||_}
+use mathlib.Core.List.{List}
+use Prim.Native.Nat.{ℕ, zero, suc, _-_}
+use borrow.Author.Tests.{lt-ltb, le-ltb, leb-true, leb-false}
+use lib.Dec.{eqb, leb, ltb}
+use lib.IntN.{ℤ, pos, negsuc, negℤ}
+use lib.ListN.{length, getD}
+use lib.Signed.{leZ, ltZ}
+use Rattle.units.specs.Lists.{allBelow}
+use Rattle.units.specs.Grounds.{firstFit, outside}
+use Rattle.coldstart.specs.ColdStart.{temperatureOk}
+use Rattle.inventory.specs.declared.Head.{Head}
+use Rattle.inventory.specs.declared.Record.{Record}
+use Rattle.inventory.specs.declared.Run.{Run}
+use Rattle.inventory.specs.Records.{temperaturesWrong, headGrounds, vehicleKm, sharesWrong, speedsWrong, recordGrounds}
+use Rattle.inventory.specs.Order.{inOrder}
+use Rattle.inventory.specs.Opening.{openNumber}
+use Rattle.inventory.specs.Adding.{addGrounds, addNumber}
+use Rattle.inventory.specs.Printed.{answered, totalGrounds, totalOf}
+use Rattle.balance.specs.Balance.{balanceRatio, soldGrounds, balanceGrounds, balanceNumber, balanceOf, printedFuel}
+use Rattle.listing.specs.Report.{reportBytes, reportGrounds, reportNumber, reportOf}
+use Rattle.accuracy.specs.Conditions.{tripOut, monthOut, someOut, temperatureOut, classOut, vehiclesOut, kmOut, distanceOut, sharesOut, speedOut, runFull, fuelOrQuantityOut, noFuelUsed, soldFuelOut, bufferShort, recordNumber}
+use Rattle.accuracy.specs.Claim.{fuelTotal}
+
+-- ---- opening
+
+not-leb : (a b : ℕ) → not (leb a b) ≡ ltb b a
+not-leb a b = by (leb a b) refl
+  where
+    by : (t : Bool) → leb a b ≡ t → not t ≡ ltb b a
+    by true e = sym (le-ltb b a (leb-true a b e))
+    by false e = sym (lt-ltb b a (leb-false a b e))
+
+not-leZ : (a b : ℤ) → not (leZ a b) ≡ ltZ b a
+not-leZ (pos a) (pos b) = not-leb a b
+not-leZ (pos a) (negsuc b) = refl
+not-leZ (negsuc a) (pos b) = refl
+not-leZ (negsuc a) (negsuc b) = not-leb b a
+
+not-and : (a b : Bool) → not (a && b) ≡ (not a || not b)
+not-and true b = refl
+not-and false b = refl
+
+month : (t : ℤ) → not (temperatureOk t) ≡ monthOut t
+unfolding temperatureOk monthOut
+month t = not-and (leZ (negℤ (pos 300)) t) (leZ t (pos 400)) ∙ (λ i. not-leZ (negℤ (pos 300)) t i || not-leZ t (pos 400) i)
+
+months : (ts : List ℤ) (n : ℕ) → not (allBelow (λ k. temperatureOk (getD ts k (pos 0))) n) ≡ someOut n ts
+unfolding allBelow someOut
+months ts zero = refl
+months ts (suc n) =
+    not-and (allBelow (λ k. temperatureOk (getD ts k (pos 0))) n) (temperatureOk (getD ts n (pos 0))) ∙ (λ i. months ts n i || month (getD ts n (pos 0)) i)
+
+pub opening : (head : Head) → openNumber head ≡ cond (tripOut (head .trip)) 1 (cond (temperatureOut (head .temps)) 2 0)
+unfolding openNumber headGrounds firstFit outside temperaturesWrong tripOut
+opening head = rw (months (head .temps) 12)
+
+-- ---- on a run in order a call has the first of its own numbers that fits
+
+-- two grounds of one number
+two : (n : ℕ) (a b : Bool) (r : ℕ) → cond a n (cond b n r) ≡ cond (a || b) n r
+two n true b r = refl
+two n false b r = refl
+
+-- g is asked of F as the run gives it, which is 0 for a fuel out of range
+by-fuel : (n : ℕ) (a b : Bool) (f : ℕ) (g : ℕ → ℕ) → cond a n (cond b n (g f)) ≡ cond (a || b) n (g (cond (eqb (cond a 11 0) 0) f 0))
+by-fuel n true b f g = refl
+by-fuel n false true f g = refl
+by-fuel n false false f g = refl
+
+module _ (run : Run) (order : inOrder run ≡ true) where
+  pub adds : (rec : Record) → addNumber run rec ≡ recordNumber (run .count) rec
+  unfolding addNumber addGrounds recordGrounds firstFit outside vehicleKm sharesWrong speedsWrong recordNumber classOut vehiclesOut kmOut distanceOut sharesOut speedOut runFull
+  adds rec = rw order
+
+  pub totals : (fuel quantity : ℕ) → totalOf run fuel quantity .number ≡ cond (fuelOrQuantityOut fuel quantity) 11 0
+  unfolding totalOf answered totalGrounds firstFit outside fuelOrQuantityOut
+  totals fuel quantity = rw order (two 11 (outside 1 3 fuel) (outside 1 5 quantity) 0)
+
+  pub reports : (buffer : List ℕ) → reportOf run buffer .number ≡ cond (bufferShort (length buffer) (length (reportBytes run))) 14 0
+  unfolding reportOf reportNumber reportGrounds firstFit bufferShort
+  reports buffer = rw order
+
+  pub balances : (fuel quantity s : ℕ) → balanceOf run fuel quantity s .number
+      ≡ cond (fuelOrQuantityOut fuel quantity) 11 (cond (noFuelUsed (fuelTotal run fuel)) 12 (cond (soldFuelOut s (fuelTotal run fuel)) 13 0))
+  unfolding balanceOf balanceNumber balanceGrounds soldGrounds balanceRatio totalOf answered totalGrounds firstFit outside fuelOrQuantityOut noFuelUsed soldFuelOut
+  balances fuel quantity s =
+      rw (order, two 13 (ltb 999999999 s) (outside 500000 1500000 (balanceRatio s (printedFuel run (fuel - 1)))) 0)
+      (by-fuel 11 (outside 1 3 fuel) (outside 1 5 quantity) (printedFuel run (fuel - 1)) (λ f. cond (noFuelUsed f) 12 (cond (soldFuelOut s f) 13 0)))

@@ -1,0 +1,88 @@
+-- The conditions of SPECIFICATION, "Refusals", number by number in its words, over plain numbers.
+-- They are written out apart from the lists of grounds that the calls go by, so that a wrong ground there breaks the claim.
+-- Assumes nothing.
+use Prim.Native.Nat.{ℕ, zero, suc, _+_, _*_}
+use mathlib.Core.Bool.{Bool, false, not, cond, _||_}
+use mathlib.Core.List.{List}
+use lib.Dec.{leb, ltb, eqb}
+use lib.IntN.{ℤ, pos, negℤ}
+use lib.ListN.{getD}
+use lib.Signed.{ltZ}
+use Rattle.units.specs.Rounding.{halfUp}
+use Rattle.inventory.specs.declared.Record.{Record}
+
+-- 1: L below 10 or above 200
+unfoldable pub tripOut : ℕ → Bool
+tripOut l = ltb l 10 || ltb 200 l
+
+-- a T below -300 or above 400
+unfoldable pub monthOut : ℤ → Bool
+monthOut t = ltZ t (negℤ (pos 300)) || ltZ (pos 400) t
+
+-- one of the first n temperatures is out of range
+unfoldable pub someOut : ℕ → List ℤ → Bool
+someOut zero ts = false
+someOut (suc n) ts = someOut n ts || monthOut (getD ts n (pos 0))
+
+-- 2: a T of the twelve is out of range
+abbrev pub temperatureOut : List ℤ → Bool
+temperatureOut ts = someOut 12 ts
+
+-- 3: class not 1 to 7
+unfoldable pub classOut : ℕ → Bool
+classOut class = ltb class 1 || ltb 7 class
+
+-- 4: vehicles below 1 or above 1,000,000
+unfoldable pub vehiclesOut : ℕ → Bool
+vehiclesOut vehicles = ltb vehicles 1 || ltb 1000000 vehicles
+
+-- 5: km below 1 or above 999,999
+unfoldable pub kmOut : ℕ → Bool
+kmOut km = ltb km 1 || ltb 999999 km
+
+-- 6: K = vehicles × km over 1,000,000,000
+unfoldable pub distanceOut : ℕ → ℕ → Bool
+distanceOut vehicles km = ltb 1000000000 (vehicles * km)
+
+-- 7: a share over 100, or their sum not 100
+unfoldable pub sharesOut : ℕ → ℕ → ℕ → Bool
+sharesOut urban rural highway = ltb 100 urban || ltb 100 rural || ltb 100 highway || not (eqb (urban + rural + highway) 100)
+
+-- 8: a speed below 10 or above 130
+unfoldable pub speedOut : ℕ → Bool
+speedOut v = ltb v 10 || ltb 130 v
+
+-- 9: the run has 5,000 records
+unfoldable pub runFull : ℕ → Bool
+runFull count = leb 5000 count
+
+-- 11: fuel not 1 to 3 or quantity not 1 to 5
+unfoldable pub fuelOrQuantityOut : ℕ → ℕ → Bool
+fuelOrQuantityOut fuel quantity = (ltb fuel 1 || ltb 3 fuel) || (ltb quantity 1 || ltb 5 quantity)
+
+-- 12: F is 0
+unfoldable pub noFuelUsed : ℕ → Bool
+noFuelUsed f = eqb f 0
+
+-- k = S × 10^12 / F, half up
+abbrev pub soldRatio : ℕ → ℕ → ℕ
+soldRatio s f = halfUp (s * 1000000000000) f
+
+-- 13: S over 999,999,999, or k below 500,000 or above 1,500,000
+unfoldable pub soldFuelOut : ℕ → ℕ → Bool
+soldFuelOut s f = ltb 999999999 s || (ltb (soldRatio s f) 500000 || ltb 1500000 (soldRatio s f))
+
+-- 14: the buffer shorter than the report
+unfoldable pub bufferShort : ℕ → ℕ → Bool
+bufferShort buffer report = ltb buffer report
+
+-- the number of adding a record where so many were taken: the first of 3 to 8 that fits, then 9, else 0
+unfoldable pub recordNumber : ℕ → Record → ℕ
+recordNumber count rec =
+    cond (classOut (rec .class)) 3
+    (cond (vehiclesOut (rec .vehicles)) 4
+    (cond (kmOut (rec .km)) 5
+    (cond (distanceOut (rec .vehicles) (rec .km)) 6
+    (cond (sharesOut (rec .shares .urban) (rec .shares .rural) (rec .shares .highway)) 7
+    (cond (speedOut (rec .speeds .urban .0) || speedOut (rec .speeds .rural .0) || speedOut (rec .speeds .highway .0)) 8
+    (cond (runFull count) 9 0))))))

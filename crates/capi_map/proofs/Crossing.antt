@@ -1,0 +1,1 @@
+-- The answers that cross to C, case by case. Assumes nothing.

@@ -1,0 +1,65 @@
+// The exports for C, Rust and Python over runs: opening, adding, order. Structs by value, answers as a number and values.
+ghost use mathlib.Core.Path.{_≡_};
+ghost use Rattle.inventory.specs.Order.{inOrder};
+ghost use Rattle.inventory.specs.Opening.{openNumber, openRun};
+ghost use Rattle.inventory.specs.Adding.{addNumber, addRun};
+ghost use Rattle.capi_runs.specs.Answers.{runAnswer, orderAnswer, layoutOf};
+use inventory::Head;
+use inventory::Record;
+use inventory::Run;
+
+// A number, 0 where it is taken, and a run.
+#[repr(C)]
+pub struct RunAnswer {
+    pub number: u64,
+    pub run: Run,
+}
+
+// The version of the structs' layout, and the size of a run in bytes.
+#[repr(C)]
+pub struct Layout {
+    pub version: u64,
+    pub size: u64,
+}
+
+#[no_mangle]
+pub extern "C" fn haldurap_layout() -> Layout
+    ensures { λ r. ⌜ r ≡ layoutOf ⌝ }
+{
+    Layout {
+        version: 2,
+        size: 1120,
+    }
+}
+
+#[no_mangle]
+pub extern "C" fn haldurap_open(head: Head) -> RunAnswer
+    ensures { λ r. ⌜ r ≡ runAnswer (openNumber head) (openRun head) ⌝ }
+{
+    let a = recording::open_run(head);
+    let v = a.verdict;
+    let n = units::verdict_number(v);
+    let run = a.run;
+    RunAnswer { number: n, run }
+}
+
+#[no_mangle]
+pub extern "C" fn haldurap_add(run: Run, rec: Record) -> RunAnswer
+    ensures { λ r. ⌜ r ≡ runAnswer (addNumber run rec) (addRun run rec) ⌝ }
+{
+    let a = recording::add(run, rec);
+    let v = a.verdict;
+    let number = units::verdict_number(v);
+    let after = a.run;
+    RunAnswer { number, run: after }
+}
+
+#[no_mangle]
+pub extern "C" fn haldurap_in_order(run: Run) -> u64
+    ensures { λ r. ⌜ r ≡ orderAnswer (inOrder run) ⌝ }
+{
+    if order::in_order(run) {
+        return 1;
+    }
+    0
+}

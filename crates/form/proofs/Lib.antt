@@ -1,0 +1,3 @@
+pub mod Renderings
+pub mod OnlyRenderings
+pub mod Form

@@ -1,0 +1,224 @@
+-- What is taken is a rendering: fields, lines, sheets. Assumes nothing.
+use Prim.Native.Nat.{ℕ, zero, suc, _+_, _-_}
+use mathlib.Core.Path.{_≡_, refl, sym, ap, _∙_}
+use mathlib.Core.List.{List, [], _∷_, _++_, map}
+use mathlib.Core.Bool.{Bool, true, false, cond}
+use mathlib.Core.Option.{Option, none, some}
+use native.Mathlib.Omega.{arith}
+use lib.Dec.{eqb}
+use lib.IntN.{ℤ, pos, negsuc}
+use lib.ListN.{length, getD, take, drop, length-drop, take-append-drop}
+use lib.Seq.{getD-drop, length-take-le, ext-getD}
+use borrow.Author.Tests.{eqb-true, eqb-false}
+use Rattle.units.specs.Lists.{tab}
+use Rattle.units.proofs.Tab.{tab-length, tab-at}
+use Rattle.units.proofs.Tests.{and-left, and-right}
+use Rattle.fields.specs.declared.Field.{Field}
+use Rattle.fields.specs.declared.Field.the-variants.{Plus, Minus, Bad}
+use Rattle.fields.specs.Field.{parse}
+use Rattle.fields.proofs.RoundTrip.{only, only-minus}
+use Rattle.inventory.specs.declared.Head.{Head}
+use Rattle.inventory.specs.declared.Record.{Record}
+use Rattle.inventory.specs.declared.Run.{Run}
+use Rattle.inventory.specs.Opening.{openNumber, openRun}
+use Rattle.inventory.specs.Adding.{addNumber, addRun}
+use Rattle.lines.specs.Lines.{glue, lines, headWidths, recordWidths, total, shaped, fields, signedOf, numberIn, numbersIn, numbersOf}
+use Rattle.lines.specs.Records.{andThen, countOf, countsOf, headWith, headOf, recordWith, recordOf}
+use Rattle.sheet.specs.Sheet.{Outcome, refusedAt, decided, lineNumber, lineRun, fromRecords, headNumber, headRun, fromHead, sheetOf}
+use Rattle.form.specs.Rendering.{renderSigned, renderLine, temperatureIn, renderHead, recordNumbers, renderRecord, renderRecords, renderSheet}
+use Rattle.form.specs.Claim.{TakenInTurn, StatedForm}
+use Rattle.lines.proofs.Lines.{before-back}
+use Rattle.sheet.proofs.Walk.{asRecord, record-made}
+
+-- ---- a field
+
+field-by : (f : List ℕ) (x : Field) (z : ℤ) → parse f ≡ x → signedOf x ≡ some z → f ≡ renderSigned (length f) z
+unfolding renderSigned
+field-by f (Plus n) z p e = let q : pos n ≡ z = cc in rw (sym q) (only f n p .0)
+field-by f (Minus n) z p e = below n p e
+  where
+    below : (n : ℕ) → parse f ≡ Minus n → signedOf (Minus n) ≡ some z → f ≡ renderSigned (length f) z
+    below zero p e = absurd (omega (arith, only-minus f 0 p .0))
+    below (suc n) p e = let q : negsuc n ≡ z = cc in rw (sym q) (only-minus f (suc n) p .1)
+field-by f Bad z p e = let y : _≡_ {A = ℕ} 0 1 = cc in absurd (omega arith)
+
+field-only : (f : List ℕ) (z : ℤ) → numberIn f ≡ some z → f ≡ renderSigned (length f) z
+unfolding numberIn
+field-only f z e = field-by f (parse f) z refl e
+
+-- ---- a line
+
+lf-alone : (l : List ℕ) → length l ≡ 1 → getD l 0 0 ≡ 10 → l ≡ 10 ∷ []
+lf-alone [] h e = absurd (omega arith)
+lf-alone (b ∷ []) h e = ap (λ (x : ℕ). x ∷ []) e
+lf-alone (b ∷ d ∷ l) h e = absurd (omega arith)
+
+fields-only : (ws l : List ℕ) (zs : List ℤ) → length l ≡ total ws + 1 → getD l (total ws) 0 ≡ 10 → numbersIn (fields ws l) ≡ some zs → l ≡ renderLine ws zs
+unfolding total numbersIn fields renderLine
+fields-only [] l zs h lf e = lf-alone l h lf
+fields-only (w ∷ ws) l zs h lf e =
+    let p = before-back (numberIn (take w l)) (numbersIn (fields ws (drop w l))) zs e in
+    let m : length (take w l) ≡ w = length-take-le w l (omega arith) in
+    let a : take w l ≡ renderSigned w (p .0) = field-only (take w l) (p .0) (p .2) ∙ ap (λ (k : ℕ). renderSigned k (p .0)) m in
+    let b : drop w l ≡ renderLine ws (p .1) = fields-only ws (drop w l) (p .1) (rw length-drop (omega arith)) (rw getD-drop lf) (p .3) in
+    let q : take w l ++ drop w l ≡ renderSigned w (p .0) ++ renderLine ws (p .1) = cc in
+    sym (take-append-drop w l) ∙ q ∙ ap (renderLine (w ∷ ws)) (sym (p .4))
+
+shaped-back : (ws line : List ℕ) → shaped ws line ≡ true → (length line ≡ total ws + 1) × (getD line (total ws) 0 ≡ 10)
+unfolding shaped
+shaped-back ws line e =
+    (eqb-true _ _ (and-left (eqb (length line) (total ws + 1)) _ e), eqb-true _ _ (and-right (eqb (length line) (total ws + 1)) _ e))
+
+numbers-back : (ws line : List ℕ) (zs : List ℤ) → numbersOf ws line ≡ some zs → (shaped ws line ≡ true) × (numbersIn (fields ws line) ≡ some zs)
+unfolding numbersOf
+numbers-back ws line zs e = by (shaped ws line) refl e
+  where
+    by : (t : Bool) → shaped ws line ≡ t → cond t (numbersIn (fields ws line)) none ≡ some zs → (shaped ws line ≡ true) × (numbersIn (fields ws line) ≡ some zs)
+    by true p e = (p, e)
+    by false p e = let y : _≡_ {A = ℕ} 0 1 = cc in absurd (omega arith)
+
+line-only : (ws line : List ℕ) (zs : List ℤ) → numbersOf ws line ≡ some zs → line ≡ renderLine ws zs
+line-only ws line zs e =
+    let p = numbers-back ws line zs e in
+    let q = shaped-back ws line (p .0) in
+    fields-only ws line zs (q .0) (q .1) (p .1)
+
+-- as many numbers as fields
+count-numbers : (fs : List (List ℕ)) (zs : List ℤ) → numbersIn fs ≡ some zs → length zs ≡ length fs
+unfolding numbersIn
+count-numbers [] zs e = let q : [] ≡ zs = cc in rw (sym q)
+count-numbers (f ∷ fs) zs e = let p = before-back (numberIn f) (numbersIn fs) zs e in rw (p .4) (ap suc (count-numbers fs (p .1) (p .3)))
+
+count-fields : (ws l : List ℕ) → length (fields ws l) ≡ length ws
+unfolding fields
+count-fields [] l = refl
+count-fields (w ∷ ws) l = ap suc (count-fields ws (drop w l))
+
+line-count : (ws line : List ℕ) (zs : List ℤ) → numbersOf ws line ≡ some zs → length zs ≡ length ws
+line-count ws line zs e = count-numbers (fields ws line) zs (numbers-back ws line zs e .1) ∙ count-fields ws line
+
+-- ---- the head line
+
+then-back : {A B : Type 0} (o : Option A) (f : A → Option B) (y : B) → andThen o f ≡ some y → (x : A) × (o ≡ some x) × (f x ≡ some y)
+then-back none f y e = let z : _≡_ {A = ℕ} 0 1 = cc in absurd (omega arith)
+then-back (some x) f y e = (x, refl, e)
+
+count-is : (z : ℤ) (n : ℕ) → countOf z ≡ some n → z ≡ pos n
+count-is (pos m) n e = let q : m ≡ n = cc in ap pos q
+count-is (negsuc m) n e = let y : _≡_ {A = ℕ} 0 1 = cc in absurd (omega arith)
+
+tab-back : (ts : List ℤ) → length ts ≡ 12 → ts ≡ tab (λ k. getD ts k (pos 0)) 12
+tab-back ts h =
+    ext-getD (pos 0) ts (tab (λ k. getD ts k (pos 0)) 12) (h ∙ sym (tab-length (λ k. getD ts k (pos 0)) 12))
+    (λ i l. sym (tab-at (pos 0) (λ k. getD ts k (pos 0)) 12 i (omega arith)))
+
+head-with : (zs : List ℤ) (head : Head) → length zs ≡ 13 → headWith zs ≡ some head → zs ≡ pos (head .trip) ∷ tab (temperatureIn head) 12
+head-with [] head h e = absurd (omega arith)
+head-with (z ∷ ts) head h e =
+    let p = then-back (countOf z) (λ n. some (record { trip = n; temps = ts })) head e in
+    let q : _≡_ {A = Head} (record { trip = p .0; temps = ts }) head = cc in
+    let a : z ≡ pos (head .trip) = count-is z (p .0) (p .1) ∙ ap (λ (x : Head). pos (x .trip)) q in
+    let b : ts ≡ tab (temperatureIn head) 12 = tab-back ts (omega arith) ∙ ap (λ (x : Head). tab (temperatureIn x) 12) q in
+    cc
+
+pub head-only : (line : List ℕ) (head : Head) → headOf line ≡ some head → line ≡ renderHead head
+unfolding headOf renderHead headWidths
+head-only line head e =
+    let p = then-back (numbersOf headWidths line) headWith head e in
+    line-only headWidths line (p .0) (p .1) ∙ ap (renderLine headWidths) (head-with (p .0) head (line-count headWidths line (p .0) (p .1)) (p .2))
+
+-- ---- a record line
+
+counts-are : (zs : List ℤ) (ns : List ℕ) → countsOf zs ≡ some ns → zs ≡ map pos ns
+unfolding countsOf
+counts-are [] ns e = let q : [] ≡ ns = cc in rw (sym q)
+counts-are (z ∷ zs) ns e =
+    let p = before-back (countOf z) (countsOf zs) ns e in
+    let a : z ≡ pos (p .0) = count-is z (p .0) (p .2) in
+    let b : zs ≡ map pos (p .1) = counts-are zs (p .1) (p .3) in
+    rw (p .4) (cc)
+
+length-map : (ns : List ℕ) → length (map pos ns) ≡ length ns
+length-map [] = refl
+length-map (n ∷ ns) = ap suc (length-map ns)
+
+record-back : (ns : List ℕ) → length ns ≡ 9 → ns ≡ recordNumbers (recordWith ns)
+record-back [] h = absurd (omega arith)
+record-back (a ∷ []) h = absurd (omega arith)
+record-back (a ∷ b ∷ []) h = absurd (omega arith)
+record-back (a ∷ b ∷ c ∷ []) h = absurd (omega arith)
+record-back (a ∷ b ∷ c ∷ d ∷ []) h = absurd (omega arith)
+record-back (a ∷ b ∷ c ∷ d ∷ e ∷ []) h = absurd (omega arith)
+record-back (a ∷ b ∷ c ∷ d ∷ e ∷ f ∷ []) h = absurd (omega arith)
+record-back (a ∷ b ∷ c ∷ d ∷ e ∷ f ∷ g ∷ []) h = absurd (omega arith)
+record-back (a ∷ b ∷ c ∷ d ∷ e ∷ f ∷ g ∷ i ∷ []) h = absurd (omega arith)
+record-back (a ∷ b ∷ c ∷ d ∷ e ∷ f ∷ g ∷ i ∷ j ∷ []) h = refl
+record-back (a ∷ b ∷ c ∷ d ∷ e ∷ f ∷ g ∷ i ∷ j ∷ k ∷ l) h = absurd (omega arith)
+
+pub record-only : (line : List ℕ) (rec : Record) → recordOf line ≡ some rec → line ≡ renderRecord rec
+unfolding renderRecord recordWidths
+record-only line rec e =
+    let p = then-back (numbersOf recordWidths line) asRecord rec (sym (record-made line) ∙ e) in
+    let q = then-back (countsOf (p .0)) (λ ns. some (recordWith ns)) rec (p .2) in
+    let r : recordWith (q .0) ≡ rec = cc in
+    let z : p .0 ≡ map pos (q .0) = counts-are (p .0) (q .0) (q .1) in
+    let n : length (q .0) ≡ 9 = sym (length-map (q .0)) ∙ ap length (sym z) ∙ line-count recordWidths line (p .0) (p .1) in
+    let b : q .0 ≡ recordNumbers rec = record-back (q .0) n ∙ ap recordNumbers r in
+    line-only recordWidths line (p .0) (p .1) ∙ ap (renderLine recordWidths) (z ∙ ap (map pos) b)
+
+-- ---- a sheet
+
+-- lines put together
+join : List (List ℕ) → List ℕ
+join [] = []
+join (l ∷ ls) = l ++ join ls
+
+join-glue : (b : ℕ) (t : Bool) (ls : List (List ℕ)) → join (glue b t ls) ≡ b ∷ join ls
+unfolding join
+join-glue b true ls = refl
+join-glue b false [] = refl
+join-glue b false (l ∷ ls) = refl
+
+whole : (s : List ℕ) → join (lines s) ≡ s
+unfolding join lines
+whole [] = refl
+whole (b ∷ bs) = join-glue b (eqb b 10) (lines bs) ∙ ap (λ (l : List ℕ). b ∷ l) (whole bs)
+
+decided-back : (number n : ℕ) (rest : Outcome) → decided number n rest .number ≡ 0 → (number ≡ 0) × (rest .number ≡ 0)
+unfolding decided
+decided-back number n rest e = by (eqb number 0) refl e
+  where
+    by : (t : Bool) → eqb number 0 ≡ t → cond t rest (refusedAt number n) .number ≡ 0 → (number ≡ 0) × (rest .number ≡ 0)
+    by true p e = (eqb-true number 0 p, e)
+    by false p e = absurd (eqb-false number 0 p e)
+
+line-back : (run : Run) (o : Option Record) → lineNumber run o ≡ 0 → (rec : Record) × (o ≡ some rec) × (addNumber run rec ≡ 0)
+line-back run none e = absurd (omega arith)
+line-back run (some rec) e = (rec, refl, e)
+
+head-back : (o : Option Head) → headNumber o ≡ 0 → (head : Head) × (o ≡ some head) × (openNumber head ≡ 0)
+head-back none e = absurd (omega arith)
+head-back (some head) e = (head, refl, e)
+
+records-only : (run : Run) (n : ℕ) (ls : List (List ℕ)) → fromRecords run n ls .number ≡ 0
+    → (recs : List Record) × TakenInTurn run recs × (join ls ≡ renderRecords recs)
+unfolding fromRecords TakenInTurn join renderRecords
+records-only run n [] e = ([], tt, refl)
+records-only run n (l ∷ ls) e =
+    let d = decided-back (lineNumber run (recordOf l)) n (fromRecords (lineRun run (recordOf l)) (n + 1) ls) e in
+    let p = line-back run (recordOf l) (d .0) in
+    let r = records-only (addRun run (p .0)) (n + 1) ls (rw (p .1) at (d .1)) in
+    (p .0 ∷ r .0, (p .2, r .1), rw (sym (record-only l (p .0) (p .1)), sym (r .2)))
+
+form-by : (bytes : List ℕ) (ls : List (List ℕ)) → fromHead ls .number ≡ 0 → bytes ≡ join ls → (head : Head) × (recs : List Record) × StatedForm bytes head recs
+unfolding fromHead join renderSheet
+form-by bytes [] e w = absurd (omega arith)
+form-by bytes (l ∷ ls) e w =
+    let d = decided-back (headNumber (headOf l)) 1 (fromRecords (headRun (headOf l)) 2 ls) e in
+    let p = head-back (headOf l) (d .0) in
+    let r = records-only (openRun (p .0)) 2 ls (rw (p .1) at (d .1)) in
+    (p .0, r .0, record { opened = p .2; added = r .1; rendered = w ∙ rw (sym (head-only l (p .0) (p .1)), sym (r .2)) })
+
+pub sheet-only : (bytes : List ℕ) → sheetOf bytes .number ≡ 0 → (head : Head) × (recs : List Record) × StatedForm bytes head recs
+unfolding sheetOf
+sheet-only bytes e = form-by bytes (lines bytes) e (sym (whole bytes))

@@ -1,0 +1,52 @@
+-- The head and the record of a line (SPECIFICATION, "Sheet").
+-- Assumes nothing.
+use Prim.Native.Nat.{ℕ}
+use mathlib.Core.List.{List, [], _∷_}
+use mathlib.Core.Option.{Option, none, some}
+use lib.IntN.{ℤ, pos, negsuc}
+use lib.ListN.{getD}
+use Rattle.inventory.specs.declared.Head.{Head}
+use Rattle.inventory.specs.declared.Record.{Record}
+use Rattle.lines.specs.Lines.{headWidths, recordWidths, before, numbersOf}
+
+abbrev pub andThen : {A B : Type 0} → Option A → (A → Option B) → Option B
+andThen (some x) f = f x
+andThen none f = none
+
+-- a number without a minus
+abbrev pub countOf : ℤ → Option ℕ
+countOf (pos n) = some n
+countOf (negsuc n) = none
+
+unfoldable pub countsOf : List ℤ → Option (List ℕ)
+countsOf [] = some []
+countsOf (z ∷ zs) = before (countOf z) (countsOf zs)
+
+-- L, which stands without a minus, then T
+abbrev pub headWith : List ℤ → Option Head
+headWith [] = none
+headWith (l ∷ ts) = andThen (countOf l) λ n. some (record { trip = n; temps = ts })
+
+-- the head of line 1, none where its shape is wrong
+unfoldable pub headOf : List ℕ → Option Head
+headOf line = andThen (numbersOf headWidths line) headWith
+
+-- class, vehicles, km, three shares, three speeds
+abbrev pub recordWith : List ℕ → Record
+recordWith ns =
+    record {
+      class = getD ns 0 0;
+      vehicles = getD ns 1 0;
+      km = getD ns 2 0;
+      shares = record { urban = getD ns 3 0; rural = getD ns 4 0; highway = getD ns 5 0 };
+      speeds =
+          record {
+            urban = record { 0 = getD ns 6 0 };
+            rural = record { 0 = getD ns 7 0 };
+            highway = record { 0 = getD ns 8 0 };
+          };
+    }
+
+-- the record of another line, none where its shape is wrong
+unfoldable pub recordOf : List ℕ → Option Record
+recordOf line = andThen (andThen (numbersOf recordWidths line) countsOf) λ ns. some (recordWith ns)

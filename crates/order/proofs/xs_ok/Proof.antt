@@ -1,0 +1,58 @@
+-- `order::xs_ok` meets its contract. Assumes nothing.
+use mathlib.Core.Path.{_≡_, refl, sym}
+use mathlib.Core.Bool.{true}
+use Prim.Native.Nat.{_≤_, _-_}
+use native.Mathlib.Omega.{arith}
+use borrow.Author.Needs.{needs}
+use borrow.Author.Tests.{le-leb, lt-leb}
+use Rattle.units.specs.Lists.{allBelow}
+use Rattle.inventory.specs.Order.{xOk}
+use Rattle.units.proofs.Tests.{more, fails, done}
+use Rattle.order.proofs.xs_ok.Statement.{statement}
+use Rattle.order.proofs.xs_ok.Tie as tie
+
+abbrev Inv-loop : tie.InvT-loop
+Inv-loop run k₀ k = (k ≤ 15) × (allBelow (xOk run) k ≡ true)
+
+abbrev μ-loop : tie.MeasureT-loop
+μ-loop run k₀ k = 15 - k
+
+loop-holds : tie.Need-loop-holds Inv-loop μ-loop
+unfolding allBelow
+loop-holds c = (search needs, refl)
+
+mul-if1 : tie.Need-mul-if1 Inv-loop μ-loop
+mul-if1 c = search needs
+
+element-copy-out-if1 : tie.Need-element-copy-out-if1 Inv-loop μ-loop
+element-copy-out-if1 c = search needs
+
+returns : tie.Need-returns Inv-loop μ-loop
+returns c = sym (fails _ 15 _ (omega arith) (lt-leb _ _ (c .if1 .taken)))
+
+add-k : tie.Need-add-k Inv-loop μ-loop
+add-k c = search needs
+
+loop-less : tie.Need-loop-less Inv-loop μ-loop
+loop-less c = search needs
+
+loop-again : tie.Need-loop-again Inv-loop μ-loop
+loop-again c = (search needs, more _ _ (c .before .before .before .loop .inv .1) (le-leb _ _ (c .if1 .left)))
+
+returns-2 : tie.Need-returns-2 Inv-loop μ-loop
+returns-2 c = done _ 15 _ (c .before .loop .inv .1) (omega arith) (omega arith)
+
+pub xs-ok-spec : {M : Type 1} → statement M
+xs-ok-spec =
+    tie.close
+    (tie.spec
+    Inv-loop
+    μ-loop
+    loop-holds
+    mul-if1
+    element-copy-out-if1
+    returns
+    add-k
+    loop-less
+    loop-again
+    returns-2)

@@ -1,0 +1,119 @@
+// The test of a run's order.
+ghost use mathlib.Core.Path.{_≡_};
+ghost use Prim.Native.Nat.{_≤_, _<_};
+ghost use Rattle.units.specs.Lists.{allBelow};
+ghost use Rattle.inventory.specs.Order.{inOrder, sumWithin, sumOk, xOk, kmOk};
+use inventory::Run;
+use units::Grams;
+
+// Whether a sum of g grams and r billionths has its rest below the limit and is at most limit grams.
+fn sum_ok(limit: Grams, g: Grams, r: u64) -> bool
+    ensures { λ b. ⌜ b ≡ sumWithin (limit .0) (g .0) r ⌝ }
+{
+    if 1000000000 <= r {
+        return false;
+    }
+    if g.0 < limit.0 {
+        return true;
+    }
+    if limit.0 < g.0 {
+        return false;
+    }
+    if 0 < r {
+        return false;
+    }
+    true
+}
+
+// Whether the sums are in order, sum by sum.
+fn each_sum_ok(run: Run) -> bool
+    requires { ⌜ run .count ≤ 5000 ⌝ }
+    ensures { λ b. ⌜ b ≡ allBelow (sumOk run) 60 ⌝ }
+{
+    let limit = Grams(1000000000000 * run.count);
+    let mut k: usize = 0;
+    while k < 60 {
+        if !sum_ok(limit, run.grams[k], run.rests[k]) {
+            return false;
+        }
+        k += 1;
+    }
+    true
+}
+
+// 0 only for a rest below its limit, without a branch: rest / 2 + 36,870,912 reaches 2^29 where rest is 10^9.
+fn rest_over(rest: u64) -> u64
+    ensures { λ r. ⌜ (r ≤ 34359738368) × (r ≡ 0 → rest < 1000000000) ⌝ }
+{
+    (rest / 2 + 36870912) / 536870912
+}
+
+// Whether the sums are in order: sum by sum only where two sums over all 60 do not decide, which have no branch and are fast.
+fn sums_ok(run: Run) -> bool
+    requires { ⌜ run .count ≤ 5000 ⌝ }
+    ensures { λ b. ⌜ b ≡ allBelow (sumOk run) 60 ⌝ }
+{
+    let mut all: u64 = 0;
+    let mut over: u64 = 0;
+    let mut j: usize = 0;
+    while j < 60 {
+        let g = run.grams[j];
+        all = all + g.0 / 64;
+        over = over + rest_over(run.rests[j]);
+        j += 1;
+    }
+    if over == 0 {
+        if all < 15625000000 * run.count {
+            return true;
+        }
+    }
+    each_sum_ok(run)
+}
+
+fn xs_ok(run: Run) -> bool
+    ensures { λ b. ⌜ b ≡ allBelow (xOk run) 15 ⌝ }
+{
+    let mut k: usize = 0;
+    while k < 15 {
+        if 4900000000 < run.x[k] {
+            return false;
+        }
+        k += 1;
+    }
+    true
+}
+
+fn kms_ok(run: Run) -> bool
+    requires { ⌜ run .count ≤ 5000 ⌝ }
+    ensures { λ b. ⌜ b ≡ allBelow (kmOk run) 3 ⌝ }
+{
+    let limit = 1000000000 * run.count;
+    let mut k: usize = 0;
+    while k < 3 {
+        let km = run.km[k];
+        if limit < km.0 {
+            return false;
+        }
+        k += 1;
+    }
+    true
+}
+
+// Whether the run is in order.
+pub fn in_order(run: Run) -> bool
+    ensures { λ b. ⌜ b ≡ inOrder run ⌝ }
+{
+    if units::is_outside(10, 200, run.trip) {
+        return false;
+    }
+    if !xs_ok(run) {
+        return false;
+    }
+    if 5000 < run.count {
+        return false;
+    }
+    if !sums_ok(run) {
+        return false;
+    }
+    kms_ok(run)
+}
