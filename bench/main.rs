@@ -3,6 +3,10 @@
 //! work on the machine does not show unless it never stops.
 //!
 //!     bench [PASSES]
+//!     bench --rows     one pass, as lines `name, archive, (a), (b)` between tabs, for bench/against.py
+//!
+//! With `--cfg layout_1` it is linked with an archive of layout 1, which has no lists and no test of order by itself, and
+//! whose report_sheet answers with the length alone: these rows are left out.
 #[path = "../include/haldurap.rs"]
 mod haldurap;
 #[path = "../tests/differential/random.rs"]
@@ -130,9 +134,72 @@ fn tuned_open(head: &tuned::Head, run: &mut tuned::Run) -> u64 {
     tuned::open(head, run)
 }
 
+#[cfg(not(layout_1))]
 fn our_sheet(text: &[u8], buffer: &mut [u8]) -> usize {
     c::report_sheet(text, buffer).bytes
 }
+
+#[cfg(layout_1)]
+fn our_sheet(text: &[u8], buffer: &mut [u8]) -> usize {
+    #[allow(clashing_extern_declarations)]
+    unsafe extern "C" {
+        fn haldurap_report_sheet(text: *const u8, text_length: usize, buffer: *mut u8, buffer_length: usize) -> c::LengthAnswer;
+    }
+    unsafe { haldurap_report_sheet(text.as_ptr(), text.len(), buffer.as_mut_ptr(), buffer.len()) }.bytes
+}
+
+#[cfg(not(layout_1))]
+#[inline(never)]
+fn plain_order(run: &plain::Run) -> bool {
+    run.in_order()
+}
+
+#[cfg(not(layout_1))]
+#[inline(never)]
+fn tuned_order(run: &tuned::Run) -> bool {
+    tuned::in_order(run)
+}
+
+#[cfg(not(layout_1))]
+#[inline(never)]
+fn plain_list(head: &plain::Head, numbers: &[u64]) -> plain::Listed {
+    plain::add_list(head, numbers).expect("a list that is taken")
+}
+
+#[cfg(not(layout_1))]
+#[inline(never)]
+fn tuned_list(head: &tuned::Head, numbers: &[u64], run: &mut tuned::Run) -> (u64, u64, usize, u64) {
+    *run = tuned::ZERO;
+    tuned::add_list(head, numbers, run)
+}
+
+/// The rows that an archive of layout 1 does not have.
+#[cfg(not(layout_1))]
+fn new_rows(best_of: &mut Best, inputs: &Inputs, (ours, a, b): &(c::Run, plain::Run, tuned::Run), repetitions: usize) {
+    let times = best(repetitions, [
+        &mut || { black_box(c::haldurap_in_order(*black_box(ours))); },
+        &mut || { black_box(plain_order(black_box(a))); },
+        &mut || { black_box(tuned_order(black_box(b))); },
+    ]);
+    keep(&mut best_of.order, times);
+
+    let numbers: Vec<u64> = inputs.c_records.iter().flat_map(|r| r.numbers()).collect();
+    let mut run = tuned::ZERO;
+    let listed = c::add_list(inputs.c_heads[0], &numbers);
+    let theirs = plain_list(&inputs.heads[0], &numbers);
+    let tuned = tuned_list(&inputs.tuned_heads[0], &numbers, &mut run);
+    assert!((listed.number, listed.taken, listed.place, listed.refused) == (0, 5000, 0, 0) && listed.run == *ours, "the list differs");
+    assert!((theirs.taken, theirs.refused) == (5000, None) && theirs.run == *a && tuned == (0, 5000, 0, 0) && run == *b, "the lists differ");
+    let times = best(repetitions, [
+        &mut || { let _ = black_box(c::add_list(*black_box(&inputs.c_heads[0]), black_box(&numbers))); },
+        &mut || { black_box(plain_list(black_box(&inputs.heads[0]), black_box(&numbers))); },
+        &mut || { black_box(tuned_list(black_box(&inputs.tuned_heads[0]), black_box(&numbers), black_box(&mut run))); },
+    ]);
+    keep(&mut best_of.list, times.map(|t| t / 5000.0));
+}
+
+#[cfg(layout_1)]
+fn new_rows(_: &mut Best, _: &Inputs, _: &(c::Run, plain::Run, tuned::Run), _: usize) {}
 
 // ---- Measuring
 
@@ -186,7 +253,7 @@ fn adds(inputs: &Inputs, repetitions: usize) -> [[f64; 10]; 3] {
             best[0][part] = best[0][part].min(start.elapsed().as_nanos() as f64 / 500.0);
             assert_eq!(refused, 0);
         }
-        black_box(answer);
+        let _ = black_box(answer);
         let mut run = plain_open(&inputs.heads[0]);
         for part in 0..10 {
             let start = Instant::now();
@@ -238,17 +305,40 @@ fn keep<const N: usize>(kept: &mut [f64; N], times: [f64; N]) {
 
 const LENGTHS: [usize; 10] = [0, 1, 10, 50, 100, 200, 400, 800, 1200, 1596];
 
-/// The best times: of sheets by length, adds by position, a total, a report, opening.
+/// The best times: of sheets by length, adds by position, a total, a report, opening, the test of order, a record of a list.
 struct Best {
     sheets: [[f64; 3]; LENGTHS.len()],
     adds: [[f64; 10]; 3],
     total: [f64; 3],
     report: [f64; 3],
     open: [f64; 3],
+    order: [f64; 3],
+    list: [f64; 3],
+}
+
+impl Best {
+    /// The rows, by name.
+    fn rows(&self) -> Vec<(String, [f64; 3])> {
+        let sheet = |n: usize| self.sheets[LENGTHS.iter().position(|&l| l == n).unwrap()];
+        let mut rows = Vec::new();
+        for (n, name) in [(1, "1 record"), (100, "100 records"), (1596, "1,596 records")] {
+            rows.push((format!("sheet to report, {name}"), sheet(n)));
+        }
+        rows.push(("add, up to 5,000".into(), self.adds.map(|p| p.iter().sum::<f64>() / 10.0)));
+        rows.push(("total of a full run".into(), self.total));
+        rows.push(("report of a full run".into(), self.report));
+        rows.push(("opening".into(), self.open));
+        if cfg!(not(layout_1)) {
+            rows.push(("order of a full run".into(), self.order));
+            rows.push(("list of 5,000, each record".into(), self.list));
+        }
+        rows
+    }
 }
 
 /// Measures everything once more.
-fn pass(best_of: &mut Best, inputs: &Inputs, (ours, a, b): &(c::Run, plain::Run, tuned::Run), repetitions: usize) {
+fn pass(best_of: &mut Best, inputs: &Inputs, runs: &(c::Run, plain::Run, tuned::Run), repetitions: usize) {
+    let (ours, a, b) = runs;
     let mut buffers = [[0u8; c::REPORT_BYTES]; 3];
     let [buffer, buffer_a, buffer_b] = &mut buffers;
     for (n, kept) in LENGTHS.into_iter().zip(&mut best_of.sheets) {
@@ -272,7 +362,7 @@ fn pass(best_of: &mut Best, inputs: &Inputs, (ours, a, b): &(c::Run, plain::Run,
 
     let places: Vec<(u64, u64)> = (1..=3).flat_map(|f| (1..=5).map(move |q| (f, q))).collect();
     let times = best(repetitions, [
-        &mut || places.iter().for_each(|&(f, q)| { black_box(c::haldurap_total(*black_box(ours), black_box(f), q)); }),
+        &mut || places.iter().for_each(|&(f, q)| { let _ = black_box(c::haldurap_total(*black_box(ours), black_box(f), q)); }),
         &mut || places.iter().for_each(|&(f, q)| { black_box(plain_total(black_box(a), black_box(f), q)); }),
         &mut || places.iter().for_each(|&(f, q)| { black_box(tuned_total(black_box(b), black_box(f), q)); }),
     ]);
@@ -281,7 +371,7 @@ fn pass(best_of: &mut Best, inputs: &Inputs, (ours, a, b): &(c::Run, plain::Run,
     let lengths = [c::report(*ours, buffer).bytes, plain_report(a, buffer_a), tuned_report(b, buffer_b)];
     assert!(lengths == [lengths[0]; 3] && buffer == buffer_a && buffer == buffer_b, "the three reports differ");
     let times = best(repetitions, [
-        &mut || { black_box(c::report(*black_box(ours), black_box(buffer))); },
+        &mut || { let _ = black_box(c::report(*black_box(ours), black_box(buffer))); },
         &mut || { black_box(plain_report(black_box(a), black_box(buffer_a))); },
         &mut || { black_box(tuned_report(black_box(b), black_box(buffer_b))); },
     ]);
@@ -289,11 +379,13 @@ fn pass(best_of: &mut Best, inputs: &Inputs, (ours, a, b): &(c::Run, plain::Run,
 
     let mut fresh = tuned::ZERO;
     let times = best(repetitions, [
-        &mut || inputs.c_heads.iter().for_each(|h| { black_box(c::haldurap_open(*black_box(h))); }),
+        &mut || inputs.c_heads.iter().for_each(|h| { let _ = black_box(c::haldurap_open(*black_box(h))); }),
         &mut || inputs.heads.iter().for_each(|h| { black_box(plain_open(black_box(h))); }),
         &mut || inputs.tuned_heads.iter().for_each(|h| { black_box(tuned_open(black_box(h), black_box(&mut fresh))); }),
     ]);
     keep(&mut best_of.open, times.map(|t| t / 64.0));
+
+    new_rows(best_of, inputs, runs, repetitions);
 }
 
 fn load() -> String {
@@ -301,24 +393,37 @@ fn load() -> String {
 }
 
 fn main() {
-    let passes: usize = std::env::args().nth(1).map_or(6, |n| n.parse().expect("PASSES"));
+    let argument = std::env::args().nth(1);
+    let rows_alone = argument.as_deref() == Some("--rows");
+    let passes: usize = if rows_alone { 1 } else { argument.map_or(6, |n| n.parse().expect("PASSES")) };
     let inputs = inputs();
     let runs = full_runs(&inputs);
-    println!("load before: {}", load());
-    let mut b = Best { sheets: [[f64::MAX; 3]; LENGTHS.len()], adds: [[f64::MAX; 10]; 3], total: [f64::MAX; 3], report: [f64::MAX; 3], open: [f64::MAX; 3] };
+    let before = load();
+    let mut b = Best {
+        sheets: [[f64::MAX; 3]; LENGTHS.len()],
+        adds: [[f64::MAX; 10]; 3],
+        total: [f64::MAX; 3],
+        report: [f64::MAX; 3],
+        open: [f64::MAX; 3],
+        order: [f64::MAX; 3],
+        list: [f64::MAX; 3],
+    };
     for _ in 0..passes {
         pass(&mut b, &inputs, &runs, 100);
     }
+    if rows_alone {
+        for (name, [ours, plain, tuned]) in b.rows() {
+            println!("{name}\t{ours}\t{plain}\t{tuned}");
+        }
+        return;
+    }
+    println!("load before: {before}");
     println!("load after: {}", load());
     println!("ns for one operation, the best of {passes} passes of 100 repetitions; (a) plain reference, (b) tuned by hand\n");
     println!("{:<36}{:>12}{:>12}{:>12}{:>10}{:>10}", "", "archive", "(a)", "(b)", "to (a)", "to (b)");
-    for (n, name) in [(1, "1 record"), (100, "100 records"), (1596, "1,596 records")] {
-        row(&format!("sheet to report, {name}"), b.sheets[LENGTHS.iter().position(|&l| l == n).unwrap()]);
+    for (name, times) in b.rows() {
+        row(&name, times);
     }
-    row("add, up to 5,000", b.adds.map(|p| p.iter().sum::<f64>() / 10.0));
-    row("total of a full run", b.total);
-    row("report of a full run", b.report);
-    row("opening", b.open);
 
     println!("\nadds by position in the run, ns an add");
     for part in 0..10 {

@@ -180,6 +180,30 @@ fn add_in_order(run: &mut Run, r: &Record) -> u64 {
     0
 }
 
+/// A list of records, nine numbers each, into a run of zeros: the number, how many were taken, and the place from 1 and the
+/// number of the first refused one.
+pub fn add_list(head: &Head, numbers: &[u64], run: &mut Run) -> (u64, u64, usize, u64) {
+    let (records, rest) = numbers.as_chunks::<9>();
+    if !rest.is_empty() {
+        return (10, 0, 0, 0);
+    }
+    let number = open(head, run);
+    if number != 0 {
+        return (number, 0, 0, 0);
+    }
+    let (mut taken, mut place, mut refused) = (0, 0, 0);
+    for (i, n) in records.iter().enumerate() {
+        let record = Record { class: n[0], vehicles: n[1], km: n[2], shares: [n[3], n[4], n[5]], speeds: [n[6], n[7], n[8]] };
+        let number = add_in_order(run, &record);
+        if number == 0 {
+            taken += 1;
+        } else if refused == 0 {
+            (place, refused) = (i + 1, number);
+        }
+    }
+    (0, taken, place, refused)
+}
+
 /// The printed total of a place in order.
 fn total_at(run: &Run, place: usize) -> u64 {
     let (g, s) = (&run.grams[place * 4..place * 4 + 4], &run.rests[place * 4..place * 4 + 4]);

@@ -5,19 +5,34 @@ import sys
 sys.path.insert(0, os.path.join(os.path.dirname(os.path.abspath(__file__)), "..", "tools"))
 import reference  # noqa: E402
 
+HEAD = (120, (100,) * 12)
 FLEET = [
     (2, 1000, 10000, (40, 40, 20), (20, 60, 100)),
     (6, 2500, 18000, (30, 45, 25), (25, 70, 110)),
     (4, 300, 12000, (55, 30, 15), (30, 65, 95)),
 ]
+WRONG = [FLEET[0], (6, 2500, 18000, (30, 45, 25), (25, 70, 131)), FLEET[2]]
 
-number, run = reference.open_run((120, (100,) * 12))
+
+def sheet(fleet):
+    return reference.head_line(HEAD) + b"".join(reference.record_line(record) for record in fleet)
+
+
+def numbers(fleet):
+    return [n for cls, vehicles, km, shares, speeds in fleet for n in (cls, vehicles, km, *shares, *speeds)]
+
+
+number, run = reference.open_run(HEAD)
 for record in FLEET:
     number, run = reference.add(run, record)
     assert number == 0
 print("records:", run.count)
 sys.stdout.write(reference.report_text(run).decode("ascii"))
+assert reference.sheet_text(sheet(FLEET)) == (0, 0, reference.report_text(run))
 print("from a sheet: the same")
+number, taken, place, refused, listed = reference.add_list(HEAD, numbers(FLEET))
+assert (number, place, refused) == (0, 0, 0) and vars(listed) == vars(run)
+print("from a list: %d taken, the same" % taken)
 for fuel, sold in ((1, 1000), (2, 4400), (3, 210)):
     for quantity in reference.QUANTITIES:
         number, k, grams = reference.balance(run, fuel, quantity, sold)
@@ -25,7 +40,10 @@ for fuel, sold in ((1, 1000), (2, 4400), (3, 210)):
         if quantity == reference.CO:
             print("fuel %d: %d t sold, k %d" % (fuel, sold, k))
         print("  %s %d g" % (reference.NAMES[quantity], grams))
-used = reference.total(run, 1, reference.FC)[1]
-print("CO2 of gasoline: %d g" % reference.half_up(reference.Fraction(44011000 * used, 12011000 + 1008 * 1800)))
-number, run = reference.add(run, (2, 1000, 10000, (40, 40, 20), (20, 60, 131)))
-print("131 km/h: refused with %d, records: %d" % (number, run.count))
+print("CO2 of gasoline: %d g" % reference.co2(run, 1, 1800)[1])
+number, run = reference.add(run, WRONG[1])
+print("131 km/h, added: refused with %d, records: %d" % (number, run.count))
+number, taken, place, refused, listed = reference.add_list(HEAD, numbers(WRONG))
+assert number == 0
+print("131 km/h in a list: %d taken, the first refused at place %d with %d" % (taken, place, refused))
+print("131 km/h in a sheet: refused with %d at line %d" % reference.sheet_text(sheet(WRONG))[:2])

@@ -1,6 +1,6 @@
-/* Opens a run, adds a fleet, balances it against sold fuel and prints the report.
+/* Opens a run, adds a fleet, prints the report, the same from a sheet and from a list, and balances it against sold fuel.
    Build it with examples/run.sh, or:
-       gcc -O2 -Wall -Iinclude -o target/fleet_c examples/fleet.c target/staticlib/libcapi.a */
+       gcc -O2 -Wall -Iinclude -o target/fleet_c examples/fleet.c target/libhaldurap.a */
 #include <inttypes.h>
 #include <stdio.h>
 #include <stdlib.h>
@@ -8,7 +8,9 @@
 
 #include "haldurap.h"
 
-static const haldurap_record fleet[] = {
+enum { PARTS = 3 };
+static const haldurap_head head = {120, {100, 100, 100, 100, 100, 100, 100, 100, 100, 100, 100, 100}};
+static const haldurap_record fleet[PARTS] = {
     /* class, vehicles, km, shares, speeds */
     {2, 1000, 10000, {40, 40, 20}, {20, 60, 100}},
     {6, 2500, 18000, {30, 45, 25}, {25, 70, 110}},
@@ -26,6 +28,21 @@ static void stop_if(uint64_t number, const char *what) {
     }
 }
 
+enum { SHEET_BYTES = HALDURAP_HEAD_BYTES + PARTS * HALDURAP_RECORD_BYTES };
+
+/* The head and a fleet as the text of a sheet; sprintf puts a 0 behind it. */
+static void write_sheet(char sheet[SHEET_BYTES + 1], const haldurap_record *records) {
+    sheet += sprintf(sheet, "%5" PRIu64, head.trip);
+    for (int month = 0; month < 12; month++) sheet += sprintf(sheet, "%5" PRId64, head.temps[month]);
+    sheet += sprintf(sheet, "\n");
+    for (int i = 0; i < PARTS; i++) {
+        haldurap_record r = records[i];
+        sheet += sprintf(sheet, "%2" PRIu64 "%7" PRIu64 "%7" PRIu64 "%4" PRIu64 "%4" PRIu64 "%4" PRIu64 "%4" PRIu64 "%4" PRIu64 "%4" PRIu64 "\n",
+                         r.vehicle_class, r.vehicles, r.km, r.shares.urban, r.shares.rural, r.shares.highway,
+                         r.speeds.urban, r.speeds.rural, r.speeds.highway);
+    }
+}
+
 int main(void) {
     haldurap_layout_answer layout = haldurap_layout();
     if (layout.version != HALDURAP_LAYOUT || layout.size != sizeof(haldurap_run)) {
@@ -33,12 +50,11 @@ int main(void) {
         return 1;
     }
 
-    haldurap_head head = {120, {100, 100, 100, 100, 100, 100, 100, 100, 100, 100, 100, 100}};
     haldurap_run_answer opened = haldurap_open(head);
     stop_if(opened.number, "open");
     haldurap_run run = opened.run;
 
-    for (size_t i = 0; i < sizeof fleet / sizeof fleet[0]; i++) {
+    for (int i = 0; i < PARTS; i++) {
         haldurap_run_answer added = haldurap_add(run, fleet[i]);
         stop_if(added.number, "add");
         run = added.run;
@@ -50,22 +66,20 @@ int main(void) {
     stop_if(written.number, "report");
     fwrite(report, 1, written.bytes, stdout);
 
-    /* The same head and fleet as the text of a sheet give the same report. */
-    char sheet[HALDURAP_HEAD_BYTES + 3 * HALDURAP_RECORD_BYTES + 1];
-    int length = sprintf(sheet, "%5" PRIu64, head.trip);
-    for (int month = 0; month < 12; month++) length += sprintf(sheet + length, "%5" PRId64, head.temps[month]);
-    length += sprintf(sheet + length, "\n");
-    for (size_t i = 0; i < sizeof fleet / sizeof fleet[0]; i++) {
-        haldurap_record r = fleet[i];
-        length += sprintf(sheet + length, "%2" PRIu64 "%7" PRIu64 "%7" PRIu64 "%4" PRIu64 "%4" PRIu64 "%4" PRIu64 "%4" PRIu64 "%4" PRIu64 "%4" PRIu64 "\n",
-                          r.vehicle_class, r.vehicles, r.km, r.shares.urban, r.shares.rural, r.shares.highway,
-                          r.speeds.urban, r.speeds.rural, r.speeds.highway);
-    }
+    /* The same head and fleet as the text of a sheet give the same report. Whether the sheet was taken is its own number. */
+    char sheet[SHEET_BYTES + 1];
+    write_sheet(sheet, fleet);
     uint8_t again[HALDURAP_REPORT_BYTES];
-    haldurap_length_answer read = haldurap_report_sheet((const uint8_t *)sheet, (size_t)length, again, sizeof again);
+    haldurap_text_answer read = haldurap_report_sheet((const uint8_t *)sheet, SHEET_BYTES, again, sizeof again);
     stop_if(read.number, "report_sheet");
+    stop_if(read.sheet_number, "sheet");
     int same = read.bytes == written.bytes && memcmp(again, report, read.bytes) == 0;
     printf("from a sheet: %s\n", same ? "the same" : "another report");
+
+    /* And as a list of numbers, nine a record, which an array of records is. */
+    haldurap_list_answer listed = haldurap_add_list(head, (const uint64_t *)fleet, PARTS * HALDURAP_RECORD_NUMBERS);
+    stop_if(listed.number, "add_list");
+    printf("from a list: %" PRIu64 " taken, %s\n", listed.taken, memcmp(&listed.run, &run, sizeof run) == 0 ? "the same" : "another run");
 
     for (uint64_t fuel = HALDURAP_GASOLINE; fuel <= HALDURAP_LPG; fuel++) {
         for (uint64_t quantity = HALDURAP_CO; quantity <= HALDURAP_FC; quantity++) {
@@ -81,10 +95,19 @@ int main(void) {
     stop_if(co2.number, "co2");
     printf("CO2 of gasoline: %" PRIu64 " g\n", co2.grams);
 
-    /* A refusal is a number, and the run is as it was. */
-    haldurap_record wrong = fleet[0];
-    wrong.speeds.highway = 131;
-    haldurap_run_answer refused = haldurap_add(run, wrong);
-    printf("131 km/h: refused with %" PRIu64 ", records: %" PRIu64 "\n", refused.number, refused.run.count);
+    /* A refusal is a number. A refused add gives the run as it was, a list passes the record over, a sheet is sent back. */
+    haldurap_record wrong[PARTS];
+    memcpy(wrong, fleet, sizeof wrong);
+    wrong[1].speeds.highway = 131;
+    haldurap_run_answer refused = haldurap_add(run, wrong[1]);
+    printf("131 km/h, added: refused with %" PRIu64 ", records: %" PRIu64 "\n", refused.number, refused.run.count);
+    listed = haldurap_add_list(head, (const uint64_t *)wrong, PARTS * HALDURAP_RECORD_NUMBERS);
+    stop_if(listed.number, "add_list");
+    printf("131 km/h in a list: %" PRIu64 " taken, the first refused at place %zu with %" PRIu64 "\n", listed.taken, listed.place, listed.refused);
+    write_sheet(sheet, wrong);
+    read = haldurap_report_sheet((const uint8_t *)sheet, SHEET_BYTES, again, sizeof again);
+    stop_if(read.number, "report_sheet");
+    if (read.sheet_number != HALDURAP_TAKEN)
+        printf("131 km/h in a sheet: refused with %" PRIu64 " at line %zu\n", read.sheet_number, read.sheet_line);
     return 0;
 }

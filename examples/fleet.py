@@ -1,8 +1,10 @@
-"""Opens a run, adds a fleet, balances it against sold fuel and prints the report: python3 examples/fleet.py."""
+"""Opens a run, adds a fleet, prints the report, the same from a sheet and from a list, and balances it against sold fuel:
+python3 examples/fleet.py."""
 import sys
 
 import haldurap
 
+HEAD = haldurap.head(120, [100] * 12)
 FLEET = [
     # class, vehicles, km, shares, speeds
     haldurap.record(2, 1000, 10000, (40, 40, 20), (20, 60, 100)),
@@ -15,19 +17,28 @@ NAMES = ("CO", "NOX", "VOC", "PM", "FC")
 SOLD = {haldurap.GASOLINE: 1000, haldurap.DIESEL: 4400, haldurap.LPG: 210}
 
 
+def sheet(fleet):
+    """The head and a fleet as the text of a sheet."""
+    text = "%5d" % HEAD.trip + "".join("%5d" % t for t in HEAD.temps) + "\n"
+    for r in fleet:
+        vehicle_class, vehicles, km, *roads = r.numbers()
+        text += "%2d%7d%7d" % (vehicle_class, vehicles, km) + "".join("%4d" % n for n in roads) + "\n"
+    return text.encode("ascii")
+
+
 def main():
-    run = haldurap.open_run(haldurap.head(120, [100] * 12))
+    run = haldurap.open_run(HEAD)
     for part in FLEET:
         run = haldurap.add(run, part)
     print("records:", run.count)
     sys.stdout.write(haldurap.report(run).decode("ascii"))
-    # The same head and fleet as the text of a sheet give the same report.
-    sheet = "%5d" % 120 + "%5d" % 100 * 12 + "\n"
-    for r in FLEET:
-        roads = [getattr(part, road) for part in (r.shares, r.speeds) for road in ("urban", "rural", "highway")]
-        sheet += "%2d%7d%7d" % (r.vehicle_class, r.vehicles, r.km) + "".join("%4d" % n for n in roads) + "\n"
-    same = haldurap.report_sheet(sheet.encode("ascii")) == haldurap.report(run)
+    # The same head and fleet as the text of a sheet give the same report. Whether the sheet was taken is its own number.
+    read = haldurap.report_sheet(sheet(FLEET))
+    same = read.number == haldurap.TAKEN and read.text == haldurap.report(run)
     print("from a sheet:", "the same" if same else "another report")
+    # And as a list.
+    listed = haldurap.add_list(HEAD, FLEET)
+    print("from a list: %d taken, %s" % (listed.taken, "the same" if bytes(listed.run) == bytes(run) else "another run"))
     for fuel, sold in SOLD.items():
         for name, quantity in zip(NAMES, haldurap.QUANTITIES):
             k, grams = haldurap.balance(run, fuel, quantity, sold)
@@ -36,12 +47,17 @@ def main():
             print("  %s %d g" % (name, grams))
     # 1.8 hydrogen per carbon.
     print("CO2 of gasoline: %d g" % haldurap.co2(run, haldurap.GASOLINE, 1800))
-    # A refusal is a number, and the run is as it was.
-    wrong = haldurap.record(2, 1000, 10000, (40, 40, 20), (20, 60, 131))
+    # A refused add raises Refused and leaves the run as it was, a list passes the record over, a sheet is sent back.
+    wrong = [FLEET[0], haldurap.record(6, 2500, 18000, (30, 45, 25), (25, 70, 131)), FLEET[2]]
     try:
-        haldurap.add(run, wrong)
+        haldurap.add(run, wrong[1])
     except haldurap.Refused as refused:
-        print("131 km/h: refused with %d, records: %d" % (refused.number, run.count))
+        print("131 km/h, added: refused with %d, records: %d" % (refused.number, run.count))
+    listed = haldurap.add_list(HEAD, wrong)
+    print("131 km/h in a list: %d taken, the first refused at place %d with %d" % (listed.taken, listed.place, listed.refused))
+    read = haldurap.report_sheet(sheet(wrong))
+    if read.number != haldurap.TAKEN:
+        print("131 km/h in a sheet: refused with %d at line %d" % (read.number, read.line))
 
 
 if __name__ == "__main__":

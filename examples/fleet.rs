@@ -1,6 +1,6 @@
-//! Opens a run, adds a fleet, balances it against sold fuel and prints the report.
+//! Opens a run, adds a fleet, prints the report, the same from a sheet and from a list, and balances it against sold fuel.
 //! Build it with examples/run.sh, or:
-//!     rustc --edition 2024 -O -o target/fleet_rust examples/fleet.rs -C link-arg=target/staticlib/libcapi.a
+//!     rustc --edition 2024 -O -o target/fleet_rust examples/fleet.rs -C link-arg=target/libhaldurap.a
 #[path = "../include/haldurap.rs"]
 mod haldurap;
 use haldurap::*;
@@ -19,7 +19,25 @@ fn record(class: u64, vehicles: u64, km: u64, shares: [u64; 3], speeds: [u64; 3]
 
 /// A value, or the number of the refusal.
 fn taken<T>(number: u64, value: T) -> Result<T, String> {
-    if number == 0 { Ok(value) } else { Err(format!("refused with {number}")) }
+    if number == TAKEN { Ok(value) } else { Err(format!("refused with {number}")) }
+}
+
+/// The head and a fleet as the text of a sheet.
+fn sheet_of(head: &Head, fleet: &[Record]) -> String {
+    let mut text = format!("{:5}", head.trip);
+    head.temps.iter().for_each(|t| text += &format!("{t:5}"));
+    text += "\n";
+    for r in fleet {
+        let Record { class, vehicles, km, shares, speeds } = r;
+        text += &format!("{class:2}{vehicles:7}{km:7}{:4}{:4}{:4}", shares.urban, shares.rural, shares.highway);
+        text += &format!("{:4}{:4}{:4}\n", speeds.urban, speeds.rural, speeds.highway);
+    }
+    text
+}
+
+/// A fleet as a list of numbers, nine a record.
+fn list_of(fleet: &[Record]) -> Vec<u64> {
+    fleet.iter().flat_map(|r| r.numbers()).collect()
 }
 
 fn main() -> Result<(), String> {
@@ -28,7 +46,8 @@ fn main() -> Result<(), String> {
         return Err("haldurap.rs does not fit this archive".into());
     }
 
-    let opened = haldurap_open(Head { trip: 120, temps: [100; 12] });
+    let head = Head { trip: 120, temps: [100; 12] };
+    let opened = haldurap_open(head);
     let mut run = taken(opened.number, opened.run)?;
 
     let fleet = [
@@ -47,24 +66,24 @@ fn main() -> Result<(), String> {
     let length = taken(written.number, written.bytes)?;
     print!("{}", str::from_utf8(&buffer[..length]).expect("a report is ASCII"));
 
-    // The same head and fleet as the text of a sheet give the same report.
-    let mut text = format!("{:5}{}\n", 120, "  100".repeat(12));
-    for r in fleet {
-        let Record { class, vehicles, km, shares, speeds } = r;
-        text += &format!("{class:2}{vehicles:7}{km:7}{:4}{:4}{:4}", shares.urban, shares.rural, shares.highway);
-        text += &format!("{:4}{:4}{:4}\n", speeds.urban, speeds.rural, speeds.highway);
-    }
+    // The same head and fleet as the text of a sheet give the same report. Whether the sheet was taken is its own number.
     let mut again = [0; REPORT_BYTES];
-    let read = report_sheet(text.as_bytes(), &mut again);
-    let same = taken(read.number, again[..read.bytes] == buffer[..length])?;
+    let read = report_sheet(sheet_of(&head, &fleet).as_bytes(), &mut again);
+    let bytes = taken(read.number, read.bytes)?;
+    let same = taken(read.sheet_number, again[..bytes] == buffer[..length])?;
     println!("from a sheet: {}", if same { "the same" } else { "another report" });
 
-    for fuel in 1..=3 {
+    // And as a list of numbers.
+    let listed = add_list(head, &list_of(&fleet));
+    let same = taken(listed.number, listed.run == run)?;
+    println!("from a list: {} taken, {}", listed.taken, if same { "the same" } else { "another run" });
+
+    for fuel in GASOLINE..=LPG {
         let sold = SOLD[fuel as usize - 1];
-        for (name, quantity) in NAMES.iter().zip(1..) {
+        for (name, quantity) in NAMES.iter().zip(CO..) {
             let b = haldurap_balance(run, fuel, quantity, sold);
             let grams = taken(b.number, b.grams)?;
-            if quantity == 1 {
+            if quantity == CO {
                 println!("fuel {fuel}: {sold} t sold, k {}", b.k);
             }
             println!("  {name} {grams} g");
@@ -72,13 +91,21 @@ fn main() -> Result<(), String> {
     }
 
     // 1.8 hydrogen per carbon.
-    let co2 = haldurap_co2(run, 1, 1800);
+    let co2 = haldurap_co2(run, GASOLINE, 1800);
     println!("CO2 of gasoline: {} g", taken(co2.number, co2.grams)?);
 
-    // A refusal is a number, and the run is as it was.
-    let mut wrong = fleet[0];
-    wrong.speeds.highway = 131;
-    let refused = haldurap_add(run, wrong);
-    println!("131 km/h: refused with {}, records: {}", refused.number, refused.run.count);
+    // A refusal is a number. A refused add gives the run as it was, a list passes the record over, a sheet is sent back.
+    let mut wrong = fleet;
+    wrong[1].speeds.highway = 131;
+    let refused = haldurap_add(run, wrong[1]);
+    println!("131 km/h, added: refused with {}, records: {}", refused.number, refused.run.count);
+    let listed = add_list(head, &list_of(&wrong));
+    taken(listed.number, ())?;
+    println!("131 km/h in a list: {} taken, the first refused at place {} with {}", listed.taken, listed.place, listed.refused);
+    let read = report_sheet(sheet_of(&head, &wrong).as_bytes(), &mut again);
+    taken(read.number, ())?;
+    if read.sheet_number != TAKEN {
+        println!("131 km/h in a sheet: refused with {} at line {}", read.sheet_number, read.sheet_line);
+    }
     Ok(())
 }

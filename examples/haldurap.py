@@ -1,39 +1,195 @@
 """The calls of haldurap.h for Python, by ctypes over a shared object linked from the archive:
 
-    gcc -shared -o target/libhaldurap.so -Wl,--whole-archive target/staticlib/libcapi.a -Wl,--no-whole-archive
+    gcc -shared -o target/libhaldurap.so -Wl,--whole-archive target/libhaldurap.a -Wl,--no-whole-archive
 
 The shared object is the one that the environment variable HALDURAP names, else target/libhaldurap.so of this
-repository. A refusal raises Refused with its number; what each call gives is described in include/haldurap.h.
+repository. What each call gives is described in include/haldurap.h.
+
+A refusal raises Refused with its number. What is no argument at all (eleven temperatures, a number beyond 64 bits,
+a float or a text where a whole number is wanted) raises ValueError with the argument's name: ctypes alone would cut
+such a number to 64 bits, or fill up with zeros, and say nothing.
 """
 import ctypes
+import operator
 import os
+from collections import namedtuple
 from ctypes import POINTER, Structure, c_double, c_int64, c_size_t, c_uint8, c_uint64
 
-LAYOUT = 1
+LAYOUT = 2
+MOST_RECORDS = 5000
+MOST_TEXT = 65536
+LINE_BYTES = 97
 REPORT_BYTES = 1455
+REFUSED_BYTES = 17
+HEAD_BYTES = 66
+RECORD_BYTES = 41
+RECORD_NUMBERS = 9
 GASOLINE, DIESEL, LPG = FUELS = (1, 2, 3)
 CO, NOX, VOC, PM, FC = QUANTITIES = (1, 2, 3, 4, 5)
+KINDS = ("urban", "rural", "highway", "cold")
+ROADS = KINDS[:3]
+(TAKEN, TRIP_LENGTH, TEMPERATURE, CLASS, VEHICLES, KILOMETRES, DISTANCE, SHARES, SPEED, FULL, LINE_SHAPE, FUEL_OR_QUANTITY,
+ NO_FUEL_USED, SOLD_FUEL, SHORT_BUFFER, FUEL_CONTENT, RUN_ORDER) = range(17)
+
+# What each number means, and what to do about it.
+MEANINGS = {
+    TRIP_LENGTH: "the mean trip length is not 10 to 200; give it in tenths of km (12 km are 120)",
+    TEMPERATURE: "a temperature is not -300 to 400; give it in tenths of a degree Celsius (10 degrees are 100)",
+    CLASS: "the class is not 1 to 7; other classes are not in this inventory",
+    VEHICLES: "vehicles are not 1 to 1,000,000; leave out a record without vehicles, split a larger one",
+    KILOMETRES: "km per vehicle are not 1 to 999,999; give the km of one vehicle, not of the fleet",
+    DISTANCE: "vehicles x km is over 1,000,000,000; split the record into several",
+    SHARES: "a share is over 100, or the three do not add up to 100; give whole percent",
+    SPEED: "a speed is not 10 to 130 km/h; give one for each road, also where its share is 0",
+    FULL: "the run has 5,000 records, and takes no more; open another run and add up the figures",
+    LINE_SHAPE: "a line of the sheet has a wrong shape, or a list is not of whole records; see the widths of the columns"
+                " (numbers right-justified with spaces, no leading zeros, LF at the end of each line), and nine numbers a record",
+    FUEL_OR_QUANTITY: "the fuel is not 1 to 3, or the quantity not 1 to 5",
+    NO_FUEL_USED: "no fuel of this kind is used in the run, so there is nothing to balance; leave this fuel out",
+    SOLD_FUEL: "sold fuel is over 999,999,999 t, or sold over used fuel is not 0.5 to 1.5; give tonnes, and look"
+               " for what the fleet or the sales leave out",
+    SHORT_BUFFER: "the buffer is shorter than the text; 1,455 bytes are always enough",
+    FUEL_CONTENT: "hydrogen per carbon is over 4,000 thousandths, sulphur over 10,000 ppm or lead over 1,000 ppm",
+    RUN_ORDER: "the run is not in order: it was never opened, or was damaged; take runs from open_run, add, add_list and sheet alone",
+}
 
 
-class Head(Structure):
-    _fields_ = [("trip", c_uint64), ("temps", c_int64 * 12)]
+class Refused(Exception):
+    """A refusal: its number, and for a sheet its line from 1. Its text says what the number means and what to do."""
+
+    def __init__(self, number, line=None):
+        where = "" if line is None else " at line %d" % line
+        super().__init__("refused with %d%s: %s" % (number, where, MEANINGS.get(number, "a number that this module does not know")))
+        self.number, self.line = number, line
+
+    def __reduce__(self):
+        return Refused, (self.number, self.line)
 
 
-class Shares(Structure):
+# What add_list gives: the run, how many records were taken, the place (from 1) and the number of the first refused one.
+ListAdded = namedtuple("ListAdded", "run taken place refused")
+# What report_sheet gives: the text, and the sheet's own number (0: taken) and line.
+SheetText = namedtuple("SheetText", "text number line")
+
+
+# ---- Arguments
+
+def _whole(name, value, signed=False):
+    """A whole number of 64 bits, or ValueError."""
+    if isinstance(value, bool) or not hasattr(type(value), "__index__"):
+        raise ValueError("%s: a whole number is wanted, %r given" % (name, value))
+    number = operator.index(value)
+    low, high = (-2**63, 2**63 - 1) if signed else (0, 2**64 - 1)
+    if not low <= number <= high:
+        wanted = "is not a 64-bit number" if signed or number > high else "is negative, and a number from 0 is wanted"
+        raise ValueError("%s: %d %s" % (name, number, wanted))
+    return number
+
+
+def _several(name, values, count, wanted, signed=False):
+    """Exactly so many whole numbers, or ValueError."""
+    items = _items(name, values, wanted)
+    if len(items) != count:
+        raise ValueError("%s: %s are wanted, %d given" % (name, wanted, len(items)))
+    return [_whole(name, item, signed) for item in items]
+
+
+def _items(name, values, wanted):
+    """What a list, a tuple, an array or any other row of values holds, or ValueError."""
+    try:
+        if isinstance(values, (str, bytes, bytearray)):
+            raise TypeError
+        return list(values)
+    except TypeError:
+        raise ValueError("%s: %s are wanted, %r given" % (name, wanted, values)) from None
+
+
+def _of(name, value, kind):
+    """A value of a class of this module, or ValueError."""
+    if not isinstance(value, kind):
+        raise ValueError("%s: a %s is wanted, %r given" % (name, kind.__name__, value))
+    return value
+
+
+def _bytes(name, data):
+    """Bytes as an array of their own, never null, and their length; or ValueError."""
+    if not isinstance(data, (bytes, bytearray, memoryview)):
+        raise ValueError("%s: bytes are wanted, %s given" % (name, type(data).__name__))
+    data = bytes(data)
+    return (c_uint8 * max(len(data), 1)).from_buffer_copy(data or b"\0"), len(data)
+
+
+# ---- Structs
+
+class _Array:
+    """An array that takes no number that is not a whole one of 64 bits, and is filled whole."""
+
+    def __init__(self, *values):
+        super().__init__(*_several(self.name, values, self._length_, self.wanted, self._type_ is c_int64))
+
+    def __setitem__(self, at, value):
+        if isinstance(at, slice):
+            value = [_whole(self.name, one, self._type_ is c_int64) for one in value]
+        else:
+            value = _whole(self.name, value, self._type_ is c_int64)
+        super().__setitem__(at, value)
+
+
+def _array(kind, length, its_name, wanted=None):
+    """Such an array as the field of a struct."""
+    return type(its_name, (_Array, kind * length), {"name": its_name, "wanted": wanted or "%d numbers" % length})
+
+
+class _Numbers(Structure):
+    """A struct that takes no number that is not a whole one of 64 bits."""
+
+    def __setattr__(self, name, value):
+        kind = dict(self._fields_).get(name)
+        if kind in (c_uint64, c_int64):
+            value = _whole(name, value, kind is c_int64)
+        elif kind is not None and issubclass(kind, _Array):
+            value = kind(*_several(name, value, kind._length_, kind.wanted, kind._type_ is c_int64))
+        elif kind is not None and not isinstance(value, kind):
+            value = kind(*_several(name, value, 3, "three (urban, rural, highway)"))
+        super().__setattr__(name, value)
+
+
+class Head(_Numbers):
+    _fields_ = [("trip", c_uint64), ("temps", _array(c_int64, 12, "temps", "twelve temperatures"))]
+
+    def __init__(self, trip, temps):
+        super().__init__(trip, temps)
+
+
+class Shares(_Numbers):
     _fields_ = [("urban", c_uint64), ("rural", c_uint64), ("highway", c_uint64)]
 
+    def __init__(self, urban, rural, highway):
+        super().__init__(urban, rural, highway)
 
-class Speeds(Structure):
+
+class Speeds(_Numbers):
     _fields_ = [("urban", c_uint64), ("rural", c_uint64), ("highway", c_uint64)]
 
+    def __init__(self, urban, rural, highway):
+        super().__init__(urban, rural, highway)
 
-class Record(Structure):
+
+class Record(_Numbers):
     _fields_ = [("vehicle_class", c_uint64), ("vehicles", c_uint64), ("km", c_uint64), ("shares", Shares), ("speeds", Speeds)]
 
+    def __init__(self, vehicle_class, vehicles, km, shares, speeds):
+        super().__init__(vehicle_class, vehicles, km, shares, speeds)
 
-class Run(Structure):
-    _fields_ = [("trip", c_uint64), ("x", c_uint64 * 15), ("count", c_uint64), ("km", c_uint64 * 3),
-                ("grams", c_uint64 * 60), ("rests", c_uint64 * 60)]
+    def numbers(self):
+        """The nine numbers of a record, as a list has them."""
+        roads = [getattr(part, road) for part in (self.shares, self.speeds) for road in ROADS]
+        return [self.vehicle_class, self.vehicles, self.km, *roads]
+
+
+class Run(_Numbers):
+    _fields_ = [("trip", c_uint64), ("x", _array(c_uint64, 15, "x")), ("count", c_uint64), ("km", _array(c_uint64, 3, "km")),
+                ("grams", _array(c_uint64, 60, "grams")), ("rests", _array(c_uint64, 60, "rests"))]
 
 
 class RunAnswer(Structure):
@@ -52,6 +208,14 @@ class LengthAnswer(Structure):
     _fields_ = [("number", c_uint64), ("bytes", c_size_t)]
 
 
+class TextAnswer(Structure):
+    _fields_ = [("number", c_uint64), ("bytes", c_size_t), ("sheet_number", c_uint64), ("sheet_line", c_size_t)]
+
+
+class ListAnswer(Structure):
+    _fields_ = [("number", c_uint64), ("taken", c_uint64), ("place", c_size_t), ("refused", c_uint64), ("run", Run)]
+
+
 class MapRowAnswer(Structure):
     _fields_ = [("number", c_uint64), ("urban", c_double), ("rural", c_double), ("highway", c_double), ("cold", c_double)]
 
@@ -68,21 +232,15 @@ class LayoutAnswer(Structure):
     _fields_ = [("version", c_uint64), ("size", c_uint64)]
 
 
-class Refused(Exception):
-    """A refusal: its number, and for a sheet its line from 1."""
-
-    def __init__(self, number, line=None):
-        super().__init__("refused with %d" % number + ("" if line is None else " at line %d" % line))
-        self.number, self.line = number, line
-
-
 _BYTES = POINTER(c_uint8)
 _QUESTION = [Run, c_uint64, c_uint64]
-# The calls: what they take and what they give.
-CALLS = {
+# The calls as C has them: what they take and what they give.
+_CALLS = {
     "layout": ([], LayoutAnswer),
     "open": ([Head], RunAnswer),
     "add": ([Run, Record], RunAnswer),
+    "add_list": ([Head, POINTER(c_uint64), c_size_t], ListAnswer),
+    "in_order": ([Run], c_uint64),
     "total": (_QUESTION, GramsAnswer),
     "urban": (_QUESTION, GramsAnswer),
     "rural": (_QUESTION, GramsAnswer),
@@ -99,17 +257,21 @@ CALLS = {
     "figure_cold": (_QUESTION, FigureAnswer),
     "report": ([Run, _BYTES, c_size_t], LengthAnswer),
     "sheet": ([_BYTES, c_size_t], SheetAnswer),
-    "report_sheet": ([_BYTES, c_size_t, _BYTES, c_size_t], LengthAnswer),
+    "report_sheet": ([_BYTES, c_size_t, _BYTES, c_size_t], TextAnswer),
 }
 
 LIBRARY = os.environ.get("HALDURAP") or os.path.join(os.path.dirname(os.path.abspath(__file__)), "..", "target", "libhaldurap.so")
-_lib = ctypes.CDLL(LIBRARY)
+_BUILD = "build it by tools/archive.sh and the gcc command at the top of " + os.path.basename(__file__)
+try:
+    _lib = ctypes.CDLL(LIBRARY)
+except OSError as error:
+    raise ImportError("%s cannot be loaded (%s); %s" % (LIBRARY, error, _BUILD)) from None
 
 
-def call(name):
-    """One of CALLS as it stands in the shared object."""
+def _call(name):
+    """One of _CALLS as it stands in the shared object. It cuts numbers to 64 bits: the functions below test them first."""
     function = getattr(_lib, "haldurap_" + name)
-    function.argtypes, function.restype = CALLS[name]
+    function.argtypes, function.restype = _CALLS[name]
     return function
 
 
@@ -119,90 +281,167 @@ def _taken(answer):
     return answer
 
 
-def _bytes(data):
-    """Bytes as an array of their own; never null."""
-    return (c_uint8 * max(len(data), 1)).from_buffer_copy(data or b"\0")
+def _ask(name, run, **numbers):
+    """The answer to a question about a run."""
+    return _taken(_call(name)(_of("run", run, Run), *[_whole(*number) for number in numbers.items()]))
+
+
+# ---- The calls
+
+def layout():
+    """The version of the layout and the size of a run that the archive was built with."""
+    answer = _call("layout")()
+    return answer.version, answer.size
 
 
 def head(trip, temps):
     """trip in tenths of km, twelve temperatures in tenths of a degree Celsius."""
-    return Head(trip, (c_int64 * 12)(*temps))
+    return Head(trip, temps)
 
 
 def record(vehicle_class, vehicles, km, shares, speeds):
     """shares and speeds are (urban, rural, highway)."""
-    return Record(vehicle_class, vehicles, km, Shares(*shares), Speeds(*speeds))
+    return Record(vehicle_class, vehicles, km, shares, speeds)
 
 
 def open_run(a_head):
     """The fresh run of a head. Refuses 1, 2."""
-    return _taken(call("open")(a_head)).run
+    return _taken(_call("open")(_of("a_head", a_head, Head))).run
 
 
 def add(run, a_record):
     """The run with the record; the run handed in stays as it is. Refuses 16, 3 to 9."""
-    return _taken(call("add")(run, a_record)).run
+    return _taken(_call("add")(_of("run", run, Run), _of("a_record", a_record, Record))).run
+
+
+def add_list(a_head, records):
+    """Opens a run and adds the records one after the other; a refused one is passed over. Gives a ListAdded: the run, how
+    many were taken, the place (from 1) and the number of the first refused one, 0 and 0 for none. The records may also be
+    plain numbers, nine a record. Refuses 10 (not whole records), 1, 2."""
+    _of("a_head", a_head, Head)
+    numbers = []
+    for item in _items("records", records, "records"):
+        if isinstance(item, Record):
+            numbers += item.numbers()
+        else:
+            numbers.append(_whole("records", item))
+    place = (c_uint64 * max(len(numbers), 1))(*numbers)
+    answer = _taken(_call("add_list")(a_head, place, len(numbers)))
+    return ListAdded(answer.run, answer.taken, answer.place, answer.refused)
+
+
+def in_order(run):
+    """Whether the run is in order: each value in its range. A value that is wrong inside its range is not seen."""
+    return _call("in_order")(_of("run", run, Run)) == 1
 
 
 def total(run, fuel, quantity):
     """The printed total, grams. Refuses 16, 11."""
-    return _taken(call("total")(run, fuel, quantity)).grams
+    return _ask("total", run, fuel=fuel, quantity=quantity).grams
+
+
+def urban(run, fuel, quantity):
+    """The printed hot grams of urban roads. Refuses 16, 11."""
+    return _ask("urban", run, fuel=fuel, quantity=quantity).grams
+
+
+def rural(run, fuel, quantity):
+    """The printed hot grams of rural roads. Refuses 16, 11."""
+    return _ask("rural", run, fuel=fuel, quantity=quantity).grams
+
+
+def highway(run, fuel, quantity):
+    """The printed hot grams of highways. Refuses 16, 11."""
+    return _ask("highway", run, fuel=fuel, quantity=quantity).grams
+
+
+def cold(run, fuel, quantity):
+    """The printed grams of cold starts. Refuses 16, 11."""
+    return _ask("cold", run, fuel=fuel, quantity=quantity).grams
 
 
 def kinds(run, fuel, quantity):
-    """The printed kinds (urban, rural, highway, cold), grams. Refuses 16, 11."""
-    return tuple(_taken(call(kind)(run, fuel, quantity)).grams for kind in ("urban", "rural", "highway", "cold"))
+    """The four printed kinds (urban, rural, highway, cold), grams. Refuses 16, 11."""
+    return tuple(_ask(kind, run, fuel=fuel, quantity=quantity).grams for kind in KINDS)
 
 
 def balance(run, fuel, quantity, sold):
     """k in millionths and the balanced total in grams; sold in tonnes. Refuses 16, 11, 12, 13."""
-    answer = _taken(call("balance")(run, fuel, quantity, sold))
+    answer = _ask("balance", run, fuel=fuel, quantity=quantity, sold=sold)
     return answer.k, answer.grams
 
 
 def co2(run, fuel, hydrogen):
-    """CO2 in grams. Refuses 16, 11, 15."""
-    return _taken(call("co2")(run, fuel, hydrogen)).grams
+    """CO2 in grams; hydrogen per carbon in thousandths. Refuses 16, 11, 15."""
+    return _ask("co2", run, fuel=fuel, hydrogen=hydrogen).grams
 
 
 def so2(run, fuel, sulphur):
-    """SO2 in grams. Refuses 16, 11, 15."""
-    return _taken(call("so2")(run, fuel, sulphur)).grams
+    """SO2 in grams; sulphur in ppm by mass. Refuses 16, 11, 15."""
+    return _ask("so2", run, fuel=fuel, sulphur=sulphur).grams
 
 
 def lead(run, fuel, content):
-    """Lead in grams. Refuses 16, 11, 15."""
-    return _taken(call("lead")(run, fuel, content)).grams
+    """Lead in grams; content in ppm by mass. Refuses 16, 11, 15."""
+    return _ask("lead", run, fuel=fuel, content=content).grams
 
 
 def map_row(run, fuel, quantity):
-    """The printed kinds as floats. Refuses 16, 11."""
-    answer = _taken(call("map_row")(run, fuel, quantity))
+    """The four printed kinds as floats, each exactly the whole grams. Refuses 16, 11."""
+    answer = _ask("map_row", run, fuel=fuel, quantity=quantity)
     return answer.urban, answer.rural, answer.highway, answer.cold
+
+
+def figure(run, fuel, quantity, kind):
+    """One field of that row (kind is a name of KINDS), or None for "not given" (PM of gasoline and LPG). Refuses 16, 11."""
+    if kind not in KINDS:
+        raise ValueError("kind: one of %s is wanted, %r given" % (", ".join(KINDS), kind))
+    answer = _ask("figure_" + kind, run, fuel=fuel, quantity=quantity)
+    return answer.grams if answer.given == 1 else None
+
+
+def figure_urban(run, fuel, quantity):
+    """figure of urban roads."""
+    return figure(run, fuel, quantity, "urban")
+
+
+def figure_rural(run, fuel, quantity):
+    """figure of rural roads."""
+    return figure(run, fuel, quantity, "rural")
+
+
+def figure_highway(run, fuel, quantity):
+    """figure of highways."""
+    return figure(run, fuel, quantity, "highway")
+
+
+def figure_cold(run, fuel, quantity):
+    """figure of cold starts."""
+    return figure(run, fuel, quantity, "cold")
 
 
 def report(run):
     """The report's bytes. Refuses 16."""
     buffer = (c_uint8 * REPORT_BYTES)()
-    length = _taken(call("report")(run, buffer, REPORT_BYTES)).bytes
+    length = _taken(_call("report")(_of("run", run, Run), buffer, REPORT_BYTES)).bytes
     return bytes(buffer[:length])
 
 
 def sheet(text):
     """The run of a sheet (bytes). Refuses with number and line."""
-    answer = call("sheet")(_bytes(text), len(text))
+    answer = _call("sheet")(*_bytes("text", text))
     if answer.number != 0:
         raise Refused(answer.number, answer.line)
     return answer.run
 
 
 def report_sheet(text):
-    """What the program `report` prints for a sheet: the report, or the line of the refusal."""
+    """What the program `report` prints for a sheet (bytes), as a SheetText: the report with number 0 and line 0, or the
+    line REFUSED with the sheet's own number and line. Raises no Refused: the number tells whether the sheet was taken."""
     buffer = (c_uint8 * REPORT_BYTES)()
-    length = _taken(call("report_sheet")(_bytes(text), len(text), buffer, REPORT_BYTES)).bytes
-    return bytes(buffer[:length])
+    answer = _taken(_call("report_sheet")(*_bytes("text", text), buffer, REPORT_BYTES))
+    return SheetText(bytes(buffer[:answer.bytes]), answer.sheet_number, answer.sheet_line)
 
 
-_layout = call("layout")()
-if (_layout.version, _layout.size) != (LAYOUT, ctypes.sizeof(Run)):
-    raise ImportError("haldurap.py does not fit " + LIBRARY)
+if layout() != (LAYOUT, ctypes.sizeof(Run)):
+    raise ImportError("%s is of another version than haldurap.py; %s" % (LIBRARY, _BUILD))

@@ -1,8 +1,11 @@
 /* haldurap.h: the proved COPERT II inventory core, for C and C++ (and for whatever can call C).
 
    Hot and cold-start exhaust of seven vehicle classes, CO2, SO2 and lead from fuel, and the
-   balance against sold fuel. Build the archive with `rt staticlib capi` and link
-   target/staticlib/libcapi.a; it needs nothing but memcpy and memset.
+   balance against sold fuel. Build the archive with `tools/archive.sh` and link
+   target/libhaldurap.a; it needs nothing but memcpy and memset.
+
+   Platform: x86-64, Linux. The archive's calls follow the C calling convention of that platform
+   (System V); an archive for another one does not exist, and this header stops there.
 
    How the calls work
    ------------------
@@ -11,16 +14,24 @@
      written, so calls from many threads need no lock. A call uses less than 16 KB of stack, the
      arguments included.
    - Every answer begins with a number: 0 if the call did what was asked, else the ground of the
-     refusal (the table below). In a refused answer every other value is 0, also the floats,
-     except that a refused add gives back the run as it came and a refused sheet gives its line.
+     refusal (the table below). Only haldurap_layout and haldurap_in_order have none: they refuse
+     nothing. An answer that is dropped is warned about (HALDURAP_ANSWER).
+   - In a refused answer (its number is not 0) every other value is 0, also the floats and every
+     word of a run, with three exceptions:
+       haldurap_add          the run is the one that was handed in, byte for byte;
+       haldurap_sheet        line is the line that decided, from 1;
+       haldurap_report_sheet sheet_number and sheet_line are told also with 14.
+     A list with refused records and a text with the line REFUSED are no refused answers: number
+     is 0, and haldurap_list_answer and haldurap_text_answer say where to look instead.
    - No call has a precondition on its numbers: any 64-bit value may be handed in, and what is out
      of range is refused by number. What the caller owes is C's own: pointers that are not null
-     (also where the length is 0), memory of the stated length, a text that does not overlap the
-     buffer.
-   - Where several grounds fit, the first in this order is given: 16, then 11, then ascending. A
-     sheet is sent back by its first bad line, and in a line 10 comes before the others.
+     (also where the length is 0), aligned memory of the stated length, a text that does not
+     overlap the buffer.
+   - Where several grounds fit, the first in this order is given: 16, then 11, then ascending; in a
+     line of a sheet and in a list 10 comes first. A sheet is sent back by its first bad line.
    - A run is plain data. It may be copied, compared by memcmp, stored and handed in again. It is
-     tested for order on every call (16), so a damaged one is refused and not believed.
+     tested for order (16) by every call that takes one; see haldurap_run for what that test sees
+     and what it cannot see.
    - Later versions move the layout of a run. Compare haldurap_layout() with HALDURAP_LAYOUT and
      sizeof(haldurap_run) before runs are kept in files, or a header and an archive are mixed.
 
@@ -30,6 +41,10 @@
 #ifndef HALDURAP_H
 #define HALDURAP_H
 
+#if !defined(__x86_64__) || !defined(__linux__) || defined(__ILP32__)
+#error "haldurap.h: the archive is for x86-64 Linux with 64-bit pointers"
+#endif
+
 #include <stddef.h>
 #include <stdint.h>
 
@@ -37,8 +52,15 @@
 extern "C" {
 #endif
 
+/* Before every call: the compiler warns where its answer is dropped. Nothing for compilers without such a mark. */
+#if defined(__GNUC__)
+#define HALDURAP_ANSWER __attribute__((warn_unused_result))
+#else
+#define HALDURAP_ANSWER
+#endif
+
 /* The layout that this header describes; haldurap_layout() tells that of the archive. */
-#define HALDURAP_LAYOUT 1
+#define HALDURAP_LAYOUT 2
 
 /* Limits. */
 #define HALDURAP_MOST_RECORDS 5000      /* records in a run */
@@ -48,6 +70,7 @@ extern "C" {
 #define HALDURAP_REFUSED_BYTES 17       /* the line REFUSED, LF included */
 #define HALDURAP_HEAD_BYTES 66          /* the first line of a sheet, LF included */
 #define HALDURAP_RECORD_BYTES 41        /* every other line of a sheet, LF included */
+#define HALDURAP_RECORD_NUMBERS 9       /* numbers of a record in a list (haldurap_add_list) */
 
 /* The numbers of refusals. */
 enum haldurap_number {
@@ -61,7 +84,7 @@ enum haldurap_number {
     HALDURAP_SHARES = 7,            /* a share over 100, or their sum not 100 */
     HALDURAP_SPEED = 8,             /* a speed out of range (10 to 130), also where its share is 0 */
     HALDURAP_FULL = 9,              /* the run has 5,000 records */
-    HALDURAP_LINE_SHAPE = 10,       /* a line of a sheet has a wrong shape */
+    HALDURAP_LINE_SHAPE = 10,       /* a line of a sheet has a wrong shape, or a list is not of whole records */
     HALDURAP_FUEL_OR_QUANTITY = 11, /* fuel not 1 to 3, or quantity not 1 to 5 */
     HALDURAP_NO_FUEL_USED = 12,     /* the fuel used is 0 in a balance */
     HALDURAP_SOLD_FUEL = 13,        /* sold fuel over 999,999,999 t, or k not 500,000 to 1,500,000 */
@@ -107,11 +130,19 @@ typedef struct haldurap_record {
 } haldurap_record;
 
 /* A run: what has been added up under one head. 1,120 bytes.
-   Take it from haldurap_open, haldurap_add and haldurap_sheet, and ask by the calls below.
+   Take it from haldurap_open, haldurap_add, haldurap_add_list and haldurap_sheet, and ask by the calls below.
 
-   It is in order if trip is 10 to 200, each x at most 4,900,000,000, count at most 5,000, each rest
-   below 1,000,000,000, each sum with its rest at most 10^12 g x count, and the kilometres of each
-   fuel at most 10^9 x count. A run that is not in order gives 16 from every call. */
+   A run that is not in order gives 16 from every call that takes it, but for haldurap_in_order, which gives 0.
+   It is in order if every value is in its range:
+       trip        10 to 200
+       x           each 0 to 4,900,000,000
+       count       0 to 5,000
+       km          each 0 to 10^9 x count
+       grams       each sum, whole grams and rest together, 0 to 10^12 g x count
+       rests       each 0 to 999,999,999
+   That is all that 16 sees. It cannot see a value that is wrong inside these ranges: a flipped bit, two
+   exchanged sums, an x of another head, a record counted twice. Such a run is taken, and the figures
+   are those of the wrong values. A program that keeps runs in files adds a checksum of its own. */
 typedef struct haldurap_run {
     uint64_t trip;              /*   0  L of the head */
     uint64_t x[15];             /*   8  cold-start values X, at (fuel - 1) x 5 + quantity - 1 */
@@ -147,6 +178,26 @@ typedef struct haldurap_length_answer {
     size_t bytes;               /*   8  0 where refused */
 } haldurap_length_answer;
 
+/* What became of a sheet and its text. 32 bytes.
+   sheet_number alone tells whether the sheet was taken; sheet_line does not. */
+typedef struct haldurap_text_answer {
+    uint64_t number;            /*   0  0: the text is in the buffer; 14: the buffer is shorter than the text */
+    size_t bytes;               /*   8  the text's length; 0 where refused */
+    uint64_t sheet_number;      /*  16  the sheet's own number, also with 14: 0 if it was taken and the text is its
+                                        report, else the text is the line REFUSED */
+    size_t sheet_line;          /*  24  the line that decided, from 1, also with 14; 0 for a taken sheet */
+} haldurap_text_answer;
+
+/* What became of a list of records, and the run. 1,152 bytes.
+   number is 0 also where records were refused: refused tells whether one was, taken how many were taken. */
+typedef struct haldurap_list_answer {
+    uint64_t number;            /*   0  0, or 10, 1, 2: the list or its head is refused */
+    uint64_t taken;             /*   8  how many records were taken; 0 where number is not 0 */
+    size_t place;               /*  16  the place of the first refused record, from 1; 0 where none was refused */
+    uint64_t refused;           /*  24  its number, 3 to 9; 0 where none was refused */
+    haldurap_run run;           /*  32  the run after all records; the run of zeros where number is not 0 */
+} haldurap_list_answer;
+
 /* A number and a row for the map: the printed kinds, each float exactly the whole grams. 40 bytes. */
 typedef struct haldurap_map_row_answer {
     uint64_t number;            /*   0 */
@@ -178,60 +229,73 @@ typedef struct haldurap_layout_answer {
 
 
 /* The layout that the archive was built with. Never refuses. */
-haldurap_layout_answer haldurap_layout(void);
+HALDURAP_ANSWER haldurap_layout_answer haldurap_layout(void);
 
 /* Opens a run: trip and the X of the head, no records, all sums 0.
    Refuses 1, 2, and gives the run of zeros then (which is not in order). */
-haldurap_run_answer haldurap_open(haldurap_head head);
+HALDURAP_ANSWER haldurap_run_answer haldurap_open(haldurap_head head);
 
 /* Adds a record. The answer's run has one record more, its kilometres, and its grams in the twenty
    sums of its fuel, exact to the billionth of a gram.
    Refuses 16, then 3 to 9, and gives back the run as it came, byte for byte. So
        a = haldurap_add(run, record); run = a.run;
    is right whether the record was taken or not. */
-haldurap_run_answer haldurap_add(haldurap_run run, haldurap_record record);
+HALDURAP_ANSWER haldurap_run_answer haldurap_add(haldurap_run run, haldurap_record record);
+
+/* Opens a run and adds records one after the other, as haldurap_open and haldurap_add would: the numbers
+   are nine a record (HALDURAP_RECORD_NUMBERS), in the order of haldurap_record: class, vehicles, km, the
+   urban, rural and highway share, the urban, rural and highway speed. So an array of n records is the list
+   of 9 x n numbers at the same place. The numbers are only read.
+   A refused record is passed over, the run stays as it was and the rest are added: the answer tells how
+   many were taken, and the place (from 1) and the number (3 to 9) of the first that was not. A list of
+   length 0 is a list without records.
+   Refuses 10 (length is no multiple of 9), then 1, 2, and gives the run of zeros then. */
+HALDURAP_ANSWER haldurap_list_answer haldurap_add_list(haldurap_head head, const uint64_t *numbers, size_t length);
+
+/* 1 if the run is in order (see haldurap_run), else 0. Never refuses. */
+HALDURAP_ANSWER uint64_t haldurap_in_order(haldurap_run run);
 
 /* The printed total of a fuel and a quantity, grams: the exact sum of the four kinds, half up.
    The printed kinds may miss it by up to 2 g. Refuses 16, 11. */
-haldurap_grams_answer haldurap_total(haldurap_run run, uint64_t fuel, uint64_t quantity);
+HALDURAP_ANSWER haldurap_grams_answer haldurap_total(haldurap_run run, uint64_t fuel, uint64_t quantity);
 
 /* One printed kind of a fuel and a quantity, grams, half up: what was emitted hot on urban roads,
    on rural roads, on highways, and by cold starts. Refuse 16, 11. */
-haldurap_grams_answer haldurap_urban(haldurap_run run, uint64_t fuel, uint64_t quantity);
-haldurap_grams_answer haldurap_rural(haldurap_run run, uint64_t fuel, uint64_t quantity);
-haldurap_grams_answer haldurap_highway(haldurap_run run, uint64_t fuel, uint64_t quantity);
-haldurap_grams_answer haldurap_cold(haldurap_run run, uint64_t fuel, uint64_t quantity);
+HALDURAP_ANSWER haldurap_grams_answer haldurap_urban(haldurap_run run, uint64_t fuel, uint64_t quantity);
+HALDURAP_ANSWER haldurap_grams_answer haldurap_rural(haldurap_run run, uint64_t fuel, uint64_t quantity);
+HALDURAP_ANSWER haldurap_grams_answer haldurap_highway(haldurap_run run, uint64_t fuel, uint64_t quantity);
+HALDURAP_ANSWER haldurap_grams_answer haldurap_cold(haldurap_run run, uint64_t fuel, uint64_t quantity);
 
 /* The balance against sold fuel, in tonnes (0 to 999,999,999). With F the printed total of FC of this
    fuel, k = sold x 10^12 / F, half up, and the balanced total of the quantity is its printed total
    x k / 1,000,000, half up. Refuses 16, 11, 12 (F is 0), 13 (sold over the limit, or k out of range). */
-haldurap_balance_answer haldurap_balance(haldurap_run run, uint64_t fuel, uint64_t quantity, uint64_t sold);
+HALDURAP_ANSWER haldurap_balance_answer haldurap_balance(haldurap_run run, uint64_t fuel, uint64_t quantity, uint64_t sold);
 
 /* From the fuel used F (the printed total of FC of this fuel), grams, half up; an F of 0 gives 0.
    CO2 = 44,011,000 F / (12,011,000 + 1,008 R), R hydrogen per carbon in thousandths, 0 to 4,000
    (gasoline 1,800). SO2 = 2 F s / 1,000,000, s sulphur in ppm by mass, 0 to 10,000.
    Lead = 3 F l / 4,000,000, l lead in ppm by mass, 0 to 1,000.
    Refuse 16, 11 (the fuel), 15 (R, s or l). */
-haldurap_grams_answer haldurap_co2(haldurap_run run, uint64_t fuel, uint64_t hydrogen);
-haldurap_grams_answer haldurap_so2(haldurap_run run, uint64_t fuel, uint64_t sulphur);
-haldurap_grams_answer haldurap_lead(haldurap_run run, uint64_t fuel, uint64_t lead);
+HALDURAP_ANSWER haldurap_grams_answer haldurap_co2(haldurap_run run, uint64_t fuel, uint64_t hydrogen);
+HALDURAP_ANSWER haldurap_grams_answer haldurap_so2(haldurap_run run, uint64_t fuel, uint64_t sulphur);
+HALDURAP_ANSWER haldurap_grams_answer haldurap_lead(haldurap_run run, uint64_t fuel, uint64_t lead);
 
 /* The four printed kinds as floats, each exactly the whole grams (below 2^53). Refuses 16, 11. */
-haldurap_map_row_answer haldurap_map_row(haldurap_run run, uint64_t fuel, uint64_t quantity);
+HALDURAP_ANSWER haldurap_map_row_answer haldurap_map_row(haldurap_run run, uint64_t fuel, uint64_t quantity);
 
 /* One field of that row, or the mark "not given" (given 0) for PM of gasoline and LPG.
    Refuse 16, 11. */
-haldurap_figure_answer haldurap_figure_urban(haldurap_run run, uint64_t fuel, uint64_t quantity);
-haldurap_figure_answer haldurap_figure_rural(haldurap_run run, uint64_t fuel, uint64_t quantity);
-haldurap_figure_answer haldurap_figure_highway(haldurap_run run, uint64_t fuel, uint64_t quantity);
-haldurap_figure_answer haldurap_figure_cold(haldurap_run run, uint64_t fuel, uint64_t quantity);
+HALDURAP_ANSWER haldurap_figure_answer haldurap_figure_urban(haldurap_run run, uint64_t fuel, uint64_t quantity);
+HALDURAP_ANSWER haldurap_figure_answer haldurap_figure_rural(haldurap_run run, uint64_t fuel, uint64_t quantity);
+HALDURAP_ANSWER haldurap_figure_answer haldurap_figure_highway(haldurap_run run, uint64_t fuel, uint64_t quantity);
+HALDURAP_ANSWER haldurap_figure_answer haldurap_figure_cold(haldurap_run run, uint64_t fuel, uint64_t quantity);
 
 /* Writes the report into the buffer: a line of 97 bytes for each fuel and quantity whose printed
    total is not 0, by fuel, then quantity: fuel (width 2), name (4), urban, rural, highway, cold,
    total (18 each), right-justified with spaces, LF. No 0 byte is written behind it.
    Gives the length in bytes (0 for a run without grams) and leaves the bytes behind it as they were.
    Refuses 16, 14, and leaves the whole buffer as it was. HALDURAP_REPORT_BYTES is always enough. */
-haldurap_length_answer haldurap_report(haldurap_run run, uint8_t *buffer, size_t length);
+HALDURAP_ANSWER haldurap_length_answer haldurap_report(haldurap_run run, uint8_t *buffer, size_t length);
 
 /* Reads a sheet of any length: lines ended by LF, the first with 13 numbers of width 5 (L, then T), the
    others with class (width 2), vehicles (7), km (7), three shares and three speeds (4 each). Numbers
@@ -241,14 +305,17 @@ haldurap_length_answer haldurap_report(haldurap_run run, uint8_t *buffer, size_t
    10, then 1, 2; in the others 10, then 3 to 9; bytes after the last LF are a line of wrong shape, and
    an empty text is 10 at line 1. A refused sheet gives the number, its line from 1, and the run of
    zeros. The text is only read. */
-haldurap_sheet_answer haldurap_sheet(const uint8_t *text, size_t length);
+HALDURAP_ANSWER haldurap_sheet_answer haldurap_sheet(const uint8_t *text, size_t length);
 
 /* Reads a sheet and writes its report into the buffer, or, for a refused sheet, the one line `REFUSED`,
    the number (width 3), its line (6), LF. A text of more than 65,536 bytes is refused as 10 at line 1.
-   Gives 0 and the length in bytes in both cases, and leaves the bytes behind it as they were.
-   Refuses 14 where there is no room for the report or the line, and leaves the whole buffer as it was.
-   HALDURAP_REPORT_BYTES is always enough. */
-haldurap_length_answer haldurap_report_sheet(const uint8_t *text, size_t text_length, uint8_t *buffer, size_t buffer_length);
+   Gives 0 and the length in bytes in both cases, beside them the sheet's own number and line, and leaves
+   the bytes behind the text as they were. sheet_number is 0 exactly where the text is a report, so nobody
+   has to read the text to know a refusal.
+   Refuses 14 where there is no room for the report or the line, tells the sheet's number and line all the
+   same, and leaves the whole buffer as it was. HALDURAP_REPORT_BYTES is always enough. */
+HALDURAP_ANSWER haldurap_text_answer haldurap_report_sheet(const uint8_t *text, size_t text_length,
+                                                           uint8_t *buffer, size_t buffer_length);
 
 #ifdef __cplusplus
 }

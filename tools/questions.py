@@ -1,4 +1,4 @@
-"""The cases of the test program `questions`, and the answers that document 01 gives for them.
+"""The cases of the test program `questions`, and the answers that tools/reference.py gives for them.
 
     python3 tools/questions.py            writes crates/questions/stdin and crates/questions/stdout
     python3 tools/questions.py --check    exits 1 if the two files are not what it would write
@@ -18,7 +18,7 @@ import reference as ref
 import vectors
 from vectors import COUNT, EXAMPLE, GRAMS, KM, MAX, MILD, PLACES, REST, TRIP
 
-# R, s and l at their ends, document 01's own values, and beside them.
+# R, s and l at their ends, the values that the specification prints, and beside them.
 HYDROGEN = (0, 1, 1800, 1999, 3999, 4000, 4001, MAX)
 SULPHUR = (0, 1, 9999, 10000, 10001, MAX)
 LEAD = (0, 1, 2, 999, 1000, 1001, MAX)
@@ -55,7 +55,7 @@ class Cases(vectors.Cases):
 
 
 def example(c):
-    """Document 01's fleet and figures; fuels on both sides of their limits; an F of 0."""
+    """The specification's fleet and figures; fuels on both sides of their limits; an F of 0."""
     c.open(120, MILD)
     c.contents(1)
     c.map()

@@ -1,8 +1,9 @@
-"""Document 01 ("COPERT II inventory core") in exact whole numbers.
+"""The inventory in exact whole numbers, written from the customer's request alone: "COPERT II inventory core", its
+document 01, of which docs/SPECIFICATION.md says the same in our own words. Nothing here comes from the Rattle code.
+Lists of records, and the number and line beside a text, are from SPECIFICATION, "Lists of records" and "Report".
 
-Written from document 01 alone; nothing here comes from the Rattle code. Each call is one function,
-and a refusal is its number in the table of grounds, 0 for none. The tally at the end has the exact,
-never rounded sums that demand 3 measures against.
+Each call is one function, and a refusal is its number in the table of refusals, 0 for none. The tally at the end has
+the exact, never rounded sums that SPECIFICATION, "Accuracy", measures against.
 """
 import re
 from fractions import Fraction
@@ -16,7 +17,7 @@ CO, NOX, VOC, PM, FC = QUANTITIES
 # The fuel of each class.
 FUEL = {1: 1, 2: 1, 3: 1, 4: 3, 5: 1, 6: 2, 7: 2}
 
-# a, b, c of each curve, by class and quantity, as document 01 prints them. FC of classes 6 and 7:
+# a, b, c of each curve, by class and quantity, as the request prints them. FC of classes 6 and 7:
 # Table V.1.6-1 of source document 002, "0,02330V^2 - 2,5646V + 136,22" and
 # "0,01530V^2 - 2,1810V + 152,74", times 10,000,000.
 CURVES = {
@@ -185,6 +186,25 @@ def add(run, record):
     return 0, new
 
 
+def add_list(head, numbers):
+    """The number (10 where the numbers are not nine a record, then 1, 2), how many records were taken, the place (from 1) and
+    the number of the first refused one (0 and 0 for none), and the run."""
+    if len(numbers) % 9 != 0:
+        return 10, 0, 0, 0, Run()
+    number, run = open_run(head)
+    if number != 0:
+        return number, 0, 0, 0, run
+    taken, first_refused = 0, (0, 0)
+    for place in range(1, len(numbers) // 9 + 1):
+        cls, vehicles, km, *roads = numbers[9 * place - 9:9 * place]
+        number, run = add(run, (cls, vehicles, km, tuple(roads[:3]), tuple(roads[3:])))
+        if number == 0:
+            taken += 1
+        elif first_refused == (0, 0):
+            first_refused = place, number
+    return 0, taken, *first_refused, run
+
+
 def question_number(run, fuel, quantity):
     """16, then 11."""
     return first([(16, not in_order(run)), (11, fuel not in FUELS or quantity not in QUANTITIES)])
@@ -344,10 +364,16 @@ def refused_line(number, line):
     return b"REFUSED%3d%6d\n" % (number, line)
 
 
+def sheet_text(text):
+    """The number, the line (0 and 0 where the sheet is taken) and the text, report or line REFUSED, of a sheet's bytes; more
+    than 65,536 are a shape fault at line 1."""
+    number, line, run = read_sheet(text) if len(text) <= 65536 else (10, 1, Run())
+    return number, line, refused_line(number, line) if number else report_text(run)
+
+
 def program_text(text):
     """What the program `report` prints for the bytes of standard input."""
-    number, line, run = read_sheet(text) if len(text) <= 65536 else (10, 1, Run())
-    return refused_line(number, line) if number else report_text(run)
+    return sheet_text(text)[2]
 
 
 def tally(head, records):

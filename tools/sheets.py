@@ -1,4 +1,4 @@
-"""The cases of the test program `sheets`, and the answers that document 01 gives for them.
+"""The cases of the test program `sheets`, and the answers that tools/reference.py gives for them.
 
     python3 tools/sheets.py            writes crates/sheets/stdin and crates/sheets/stdout
     python3 tools/sheets.py --check    exits 1 if the two files are not what it would write

@@ -1,4 +1,4 @@
-"""The cases of the test program `vectors`, and the answers that document 01 gives for them.
+"""The cases of the test program `vectors`, and the answers that tools/reference.py gives for them.
 
     python3 tools/vectors.py            writes crates/vectors/stdin and crates/vectors/stdout
     python3 tools/vectors.py --check    exits 1 if the two files are not what it would write
@@ -60,7 +60,7 @@ class Cases:
 
 
 def example(c):
-    """Document 01's fleet, its report, its balance, and the same fleet without cold CO."""
+    """The specification's fleet, its report, its balance, and the same fleet without cold CO."""
     c.open(120, MILD)
     c.say("fields")
     c.say("report", 0)

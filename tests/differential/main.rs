@@ -1,4 +1,4 @@
-//! Holds the archive, through its C interface, against the plain implementation of document 01 in reference.rs: the same
+//! Holds the archive, through its C interface, against the plain implementation in reference.rs: the same
 //! random and boundary inputs to both, and every value and every byte compared. Prints what was tried by number, and how
 //! many differences there were; exits 1 on any.
 //!
@@ -79,9 +79,9 @@ fn limit(i: usize, count: u64) -> u64 {
 
 // ---- Counting
 
-const CALLS: [&str; 20] = [
+const CALLS: [&str; 22] = [
     "layout", "open", "add", "total", "urban", "rural", "highway", "cold", "balance", "co2", "so2", "lead", "map_row",
-    "figure_urban", "figure_rural", "figure_highway", "figure_cold", "report", "sheet", "report_sheet",
+    "figure_urban", "figure_rural", "figure_highway", "figure_cold", "report", "sheet", "report_sheet", "add_list", "in_order",
 ];
 const LAYOUT: usize = 0;
 const OPEN: usize = 1;
@@ -97,6 +97,8 @@ const FIGURES: usize = 13;
 const REPORT: usize = 17;
 const SHEET: usize = 18;
 const REPORT_SHEET: usize = 19;
+const ADD_LIST: usize = 20;
+const IN_ORDER: usize = 21;
 
 struct Held {
     /// By call and number.
@@ -104,6 +106,12 @@ struct Held {
     not_given: u64,
     buffers: u64,
     out_of_order: u64,
+    /// Records in lists, and the first refused ones by number.
+    listed: u64,
+    passed_over: [u64; 17],
+    /// Sheets by the number beside their text, and how often that text had no room.
+    texts: [u64; 17],
+    no_room: [u64; 17],
     edits: [[u64; 17]; random::EDITS.len()],
     differences: u64,
 }
@@ -163,7 +171,127 @@ fn any_record(r: &mut Random) -> plain::Record {
     if r.one_in(8) { random::damaged_record(r) } else { random::good_record(r) }
 }
 
+// ---- Lists of records
+
+fn numbers(record: &plain::Record) -> [u64; 9] {
+    let ([u, v, w], [a, b, d]) = (record.shares, record.speeds);
+    [record.class, record.vehicles, record.km, u, v, w, a, b, d]
+}
+
+/// Adds a list both ways: number, how many were taken, place and number of the first refused one, every word of the run.
+fn ask_list(held: &mut Held, head: &plain::Head, numbers: &[u64]) {
+    let kept = numbers.to_vec();
+    let theirs = plain::add_list(head, numbers);
+    let number = number_of(&theirs);
+    held.listed += numbers.len() as u64 / 9;
+    let wanted = match theirs {
+        Ok(listed) => {
+            let (place, refused) = listed.refused.unwrap_or((0, 0));
+            held.passed_over[refused as usize] += 1;
+            c::ListAnswer { number, taken: listed.taken, place, refused, run: c_run(&listed.run) }
+        }
+        Err(_) => c::ListAnswer { number, taken: 0, place: 0, refused: 0, run: c_run(&plain::Run::default()) },
+    };
+    let input = || format!("{head:?}, {} numbers {:?}", numbers.len(), &numbers[..numbers.len().min(90)]);
+    held.same(ADD_LIST, number, c::add_list(c_head(head), numbers), wanted, input);
+    if numbers != kept {
+        held.differences += 1;
+        println!("DIFFERENCE: the list was changed");
+    }
+}
+
+/// A list of n records, one in so many of them damaged (0: none).
+fn list(r: &mut Random, n: usize, damaged: u64) -> Vec<u64> {
+    let mut list = Vec::with_capacity(9 * n);
+    for _ in 0..n {
+        let bad = damaged > 0 && r.one_in(damaged);
+        list.extend(numbers(&if bad { random::damaged_record(r) } else { random::good_record(r) }));
+    }
+    list
+}
+
+fn lists(held: &mut Held, r: &mut Random, times: u64, small: bool) {
+    for _ in 0..times {
+        let n = match r.below(50) {
+            0 => r.from_to(20, 200),
+            _ => r.from_to(0, 12),
+        } as usize;
+        let damaged = r.of(&[0, 1, 2, 8]);
+        let mut numbers = list(r, n, damaged);
+        // now and then not of whole records: cut, or some numbers more
+        match r.below(6) {
+            0 => numbers.truncate(r.place(numbers.len() + 1)),
+            1 => numbers.extend(0..r.from_to(1, 8)),
+            _ => {}
+        }
+        let head = if r.one_in(4) { random::damaged_head(r) } else { random::good_head(r) };
+        ask_list(held, &head, &numbers);
+    }
+    // every length up to three records, with a head that is taken and one that is not
+    let numbers = list(r, 3, 0);
+    for n in 0..=numbers.len() {
+        ask_list(held, &plain::Head { trip: 10, temps: [-300; 12] }, &numbers[..n]);
+        ask_list(held, &plain::Head { trip: 9, temps: [401; 12] }, &numbers[..n]);
+        ask_list(held, &plain::Head { trip: 200, temps: [401; 12] }, &numbers[..n]);
+    }
+    // one refused record of each number, at the first, a middle and the last place, and only such ones
+    let good = numbers_of_example();
+    for bad in bad_records() {
+        for (before, behind) in [(0, 4), (2, 2), (4, 0), (0, 0)] {
+            let mut numbers = good.repeat(before);
+            numbers.extend(bad);
+            numbers.extend(good.repeat(behind));
+            ask_list(held, &plain::Head { trip: 120, temps: [100; 12] }, &numbers);
+        }
+        for other in bad_records() {
+            ask_list(held, &plain::Head { trip: 120, temps: [100; 12] }, &[good, bad, other, good].concat());
+        }
+    }
+    // full runs: the last record that is taken, the first that is not, and those behind it
+    for n in [4999, 5000, 5001, 5002, 5100] {
+        for damaged in if small { &[0][..] } else { &[0, 3, 1000, 0, 8][..] } {
+            let numbers = list(r, n, *damaged);
+            let head = random::good_head(r);
+            ask_list(held, &head, &numbers);
+        }
+        ask_list(held, &plain::Head { trip: 120, temps: [100; 12] }, &good.repeat(n));
+        // a refused record before the run is full: its place, and one record more is taken
+        let mut numbers = good.repeat(n);
+        numbers[9 * 2500 + 8] = 131;
+        ask_list(held, &plain::Head { trip: 120, temps: [100; 12] }, &numbers);
+        numbers.pop();
+        ask_list(held, &plain::Head { trip: 120, temps: [100; 12] }, &numbers);
+    }
+    // behind a full run a refused record is told by its own number, and not by 9
+    for bad in bad_records() {
+        ask_list(held, &plain::Head { trip: 120, temps: [100; 12] }, &[good.repeat(5000), bad.to_vec(), good.to_vec()].concat());
+    }
+    // the largest sums that a list can give
+    let most = [6, 1_000_000, 1000, 100, 0, 0, 130, 130, 130];
+    ask_list(held, &plain::Head { trip: 10, temps: [-300; 12] }, &most.repeat(5001));
+}
+
+fn numbers_of_example() -> [u64; 9] {
+    [2, 1000, 10_000, 40, 40, 20, 20, 60, 100]
+}
+
+/// One record for each of 3 to 8.
+fn bad_records() -> [[u64; 9]; 6] {
+    let with = |i: usize, value| {
+        let mut record = numbers_of_example();
+        record[i] = value;
+        record
+    };
+    [with(0, 8), with(1, 0), with(2, 1_000_000), with(1, 100_001), with(5, 19), with(8, 131)]
+}
+
 // ---- Questions
+
+/// Whether the run is in order.
+fn ask_order(held: &mut Held, ours: c::Run, run: &plain::Run) {
+    let ordered = run.in_order();
+    held.same(IN_ORDER, if ordered { 0 } else { 16 }, c::haldurap_in_order(ours), ordered as u64, || format!("{ours:?}"));
+}
 
 type GramsCall = extern "C" fn(c::Run, u64, u64) -> c::GramsAnswer;
 type FigureCall = extern "C" fn(c::Run, u64, u64) -> c::FigureAnswer;
@@ -235,6 +363,7 @@ const QUANTITIES: [u64; 10] = [0, 1, 2, 3, 4, 5, 6, 256 + 5, (1 << 32) + 5, u64:
 
 /// Every question.
 fn ask_all(held: &mut Held, r: &mut Random, ours: c::Run, run: &plain::Run) {
+    ask_order(held, ours, run);
     for fuel in 1..=3 {
         for quantity in 1..=5 {
             ask_place(held, ours, run, fuel, quantity);
@@ -282,6 +411,7 @@ fn ask_out_of_order(held: &mut Held, r: &mut Random, bad: c::Run, what: &dyn Fn(
     let run = plain_run(&bad);
     assert!(!run.in_order(), "{}", what());
     held.out_of_order += 1;
+    ask_order(held, bad, &run);
     let (fuel, quantity) = (r.of(&FUELS), r.of(&QUANTITIES));
     let record = any_record(r);
     let (mut ours, mut theirs) = (bad, run.clone());
@@ -323,6 +453,7 @@ fn out_of_order(held: &mut Held, r: &mut Random, run: &c::Run) {
             *word(&mut edge, i + 60) = 0;
         }
         let edge_run = plain_run(&edge);
+        ask_order(held, edge, &edge_run);
         ask_place(held, edge, &edge_run, r.from_to(1, 3), r.from_to(1, 5));
     }
     // fewer records than the sums and kilometres need
@@ -349,13 +480,17 @@ fn ask_sheet(held: &mut Held, r: &mut Random, text: &[u8], edit: usize) {
     let wanted = plain::sheet_report(text);
     let exact = wanted.len();
     let short = exact.saturating_sub(1);
+    // the sheet's own number and line stand beside the text's length whether it has room or not
+    let (sheet_number, sheet_line) = plain::sheet_verdict(text);
+    held.texts[sheet_number as usize] += 1;
     for length in [exact, short, exact + 1 + r.place(100), r.place(exact + 1)] {
         let mut buffer = r.bytes(length).into_boxed_slice();
         let mut expected = buffer.clone();
         let theirs = plain::write_sheet_report(text, &mut expected);
         let a = c::report_sheet(text, &mut buffer);
         held.buffers += 1;
-        let wanted = c::LengthAnswer { number: number_of(&theirs), bytes: theirs.unwrap_or(0) };
+        held.no_room[sheet_number as usize] += theirs.is_err() as u64;
+        let wanted = c::TextAnswer { number: number_of(&theirs), bytes: theirs.unwrap_or(0), sheet_number, sheet_line };
         held.same(REPORT_SHEET, wanted.number, (a, &buffer), (wanted, &expected), || format!("{length} bytes of buffer, {}", input()));
     }
     if text != kept {
@@ -406,12 +541,12 @@ fn sheets(held: &mut Held, r: &mut Random, times: u64) {
     }
 }
 
-// ---- The numbers that document 01 prints
+// ---- The numbers that SPECIFICATION, "Figures", prints
 
 fn printed_numbers(held: &mut Held) {
     let head = plain::Head { trip: 120, temps: [100; 12] };
     let record = plain::Record { class: 2, vehicles: 1000, km: 10_000, shares: [40, 40, 20], speeds: [20, 60, 100] };
-    let (mut ours, mut theirs) = open(held, &head).expect("document 01's head");
+    let (mut ours, mut theirs) = open(held, &head).expect("the head of the figures");
     assert_eq!(add(held, &mut ours, &mut theirs, &record), 0);
     let report = " 1  CO           6038000           6118000           6939000           8037182          27132182
  1 NOX           1605600           1464800           1030000             94987           4195387
@@ -445,8 +580,18 @@ fn main() {
     let seed = arguments.iter().position(|a| a == "--seed").map_or(20_261_115, |i| arguments[i + 1].parse().expect("--seed N"));
     let part = if small { 100 } else { 1 };
     let mut r = Random(seed);
-    let mut held =
-        Held { tried: [[0; 17]; CALLS.len()], not_given: 0, buffers: 0, out_of_order: 0, edits: [[0; 17]; random::EDITS.len()], differences: 0 };
+    let mut held = Held {
+        tried: [[0; 17]; CALLS.len()],
+        not_given: 0,
+        buffers: 0,
+        out_of_order: 0,
+        listed: 0,
+        passed_over: [0; 17],
+        texts: [0; 17],
+        no_room: [0; 17],
+        edits: [[0; 17]; random::EDITS.len()],
+        differences: 0,
+    };
     println!("seed {seed}{}", if small { ", a hundredth" } else { "" });
 
     let layout = c::haldurap_layout();
@@ -518,9 +663,11 @@ fn main() {
     }
 
     sheets(&mut held, &mut r, 205_000 / part);
+    lists(&mut held, &mut r, 60_000 / part, small);
 
     println!("runs opened and added to: {runs}, of them full: {full}; runs in order made up: {made}; runs out of order: {}", held.out_of_order);
     println!("adds: {}; sheets: {}; buffers compared whole: {}; figures not given: {}", held.of(ADD), held.of(SHEET), held.buffers, held.not_given);
+    println!("lists: {}, with {} records", held.of(ADD_LIST), held.listed);
     println!("\nanswers by number:");
     print!("{:>16}", "");
     (0..=16).for_each(|n| print!("{n:>9}"));
@@ -530,10 +677,13 @@ fn main() {
         tried.iter().for_each(|n| print!("{:>9}", if *n == 0 { "-".into() } else { n.to_string() }));
         println!();
     }
+    let by_number = |tried: &[u64; 17]| (0..=16).filter(|&n| tried[n] > 0).map(|n| format!("{n}: {}", tried[n])).collect::<Vec<_>>().join(", ");
+    println!("\nlists by the number of their first refused record:  {}", by_number(&held.passed_over));
+    println!("texts of sheets by the sheet's own number:  {}", by_number(&held.texts));
+    println!("of them without room (14) by the sheet's own number:  {}", by_number(&held.no_room));
     println!("\nsheets by what was done to them, and by number:");
     for (edit, tried) in held.edits.iter().enumerate() {
-        let numbers: Vec<String> = (0..=16).filter(|&n| tried[n] > 0).map(|n| format!("{n}: {}", tried[n])).collect();
-        println!("{:>40}  {}", random::EDITS[edit], numbers.join(", "));
+        println!("{:>40}  {}", random::EDITS[edit], by_number(tried));
     }
     println!("\ndifferences: {}", held.differences);
     std::process::exit((held.differences > 0) as i32);

@@ -1,6 +1,7 @@
-//! Document 01 ("COPERT II inventory core") in plain Rust: ordinary structs, u128 and i128 wherever a product might be
-//! large. Written from the document; nothing here comes from the Rattle code. A refusal is its number in the table of
-//! grounds. Fuels, quantities and kinds count from 0 inside arrays and from 1 where a caller hands them in.
+//! The inventory in plain Rust: ordinary structs, u128 and i128 wherever a product might be large. Written from the
+//! customer's request ("COPERT II inventory core", its document 01, of which docs/SPECIFICATION.md says the same in our own
+//! words); lists of records and the number and line beside a text are from that page itself. Nothing here comes from the
+//! Rattle code. A refusal is its number in the table of refusals. Fuels, quantities and kinds count from 0 inside arrays and from 1 where a caller hands them in.
 #![allow(dead_code)]
 
 pub const URBAN: usize = 0;
@@ -191,6 +192,33 @@ fn record_fault(r: &Record) -> Option<u64> {
         return Some(8);
     }
     None
+}
+
+/// A list of records as it was added.
+#[derive(Clone, Debug, PartialEq)]
+pub struct Listed {
+    pub run: Run,
+    pub taken: u64,
+    /// The place from 1 and the number of the first refused record.
+    pub refused: Option<(usize, u64)>,
+}
+
+/// Opens a run and adds records one after the other, nine numbers each; a refused record is passed over. Refuses with 10
+/// where the numbers are not of whole records, then 1 or 2.
+pub fn add_list(head: &Head, numbers: &[u64]) -> Result<Listed, u64> {
+    let records = numbers.chunks_exact(9);
+    if !records.remainder().is_empty() {
+        return Err(10);
+    }
+    let mut listed = Listed { run: open(head)?, taken: 0, refused: None };
+    for (i, n) in records.enumerate() {
+        let record = Record { class: n[0], vehicles: n[1], km: n[2], shares: [n[3], n[4], n[5]], speeds: [n[6], n[7], n[8]] };
+        match listed.run.add(&record) {
+            Ok(()) => listed.taken += 1,
+            Err(number) => listed.refused = listed.refused.or(Some((i + 1, number))),
+        }
+    }
+    Ok(listed)
 }
 
 impl Run {
@@ -416,13 +444,22 @@ pub fn sheet(text: &[u8]) -> Result<Run, SentBack> {
     run.ok_or(SentBack { number: 10, line: 1 })
 }
 
+/// The run of a sheet of at most 65,536 bytes; a longer one is a shape fault at line 1.
+fn short_sheet(text: &[u8]) -> Result<Run, SentBack> {
+    if text.len() > MOST_TEXT { Err(SentBack { number: 10, line: 1 }) } else { sheet(text) }
+}
+
 /// What the program `report` prints for a sheet.
 pub fn sheet_report(text: &[u8]) -> String {
-    let read = if text.len() > MOST_TEXT { Err(SentBack { number: 10, line: 1 }) } else { sheet(text) };
-    match read {
+    match short_sheet(text) {
         Ok(run) => run.report().expect("a sheet gives a run in order"),
         Err(back) => format!("REFUSED{:3}{:6}\n", back.number, back.line),
     }
+}
+
+/// The sheet's own number and line, 0 and 0 where it is taken, beside that text.
+pub fn sheet_verdict(text: &[u8]) -> (u64, usize) {
+    short_sheet(text).err().map_or((0, 0), |back| (back.number, back.line))
 }
 
 /// The same into a buffer: its length, or 14 and the buffer as it was.

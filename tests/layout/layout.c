@@ -37,6 +37,10 @@ static void as_documented(void) {
     SIZE(haldurap_balance_answer, 24), PLACE(haldurap_balance_answer, number, 0), PLACE(haldurap_balance_answer, k, 8);
     PLACE(haldurap_balance_answer, grams, 16);
     SIZE(haldurap_length_answer, 16), PLACE(haldurap_length_answer, number, 0), PLACE(haldurap_length_answer, bytes, 8);
+    SIZE(haldurap_text_answer, 32), PLACE(haldurap_text_answer, number, 0), PLACE(haldurap_text_answer, bytes, 8);
+    PLACE(haldurap_text_answer, sheet_number, 16), PLACE(haldurap_text_answer, sheet_line, 24);
+    SIZE(haldurap_list_answer, 1152), PLACE(haldurap_list_answer, number, 0), PLACE(haldurap_list_answer, taken, 8);
+    PLACE(haldurap_list_answer, place, 16), PLACE(haldurap_list_answer, refused, 24), FIELD(haldurap_list_answer, run, 32, 1120);
     SIZE(haldurap_map_row_answer, 40), PLACE(haldurap_map_row_answer, number, 0), PLACE(haldurap_map_row_answer, urban, 8);
     PLACE(haldurap_map_row_answer, rural, 16), PLACE(haldurap_map_row_answer, highway, 24), PLACE(haldurap_map_row_answer, cold, 32);
     SIZE(haldurap_figure_answer, 24), PLACE(haldurap_figure_answer, number, 0), PLACE(haldurap_figure_answer, given, 8);
@@ -48,6 +52,10 @@ static void as_documented(void) {
 
 static const haldurap_head head = {120, {100, 100, 100, 100, 100, 100, 100, 100, 100, 100, 100, 100}};
 static const haldurap_record record = {2, 1000, 10000, {40, 40, 20}, {20, 60, 100}};
+static const char text[] = "  120  100  100  100  100  100  100  100  100  100  100  100  100\n"
+                           " 2   1000  10000  40  40  20  20  60 100\n"
+                           " 0   1000  10000  40  40  20  20  60 100\n";
+enum { TAKEN_BYTES = 107, REFUSED_BYTES = 148 };
 
 #if defined(__x86_64__) && !defined(_WIN32)
 /* An answer of more than 16 bytes is written to a place that the caller hands in as a first, hidden argument. Handing that
@@ -82,6 +90,11 @@ static void sizes_written(haldurap_run run) {
     WRITTEN(haldurap_figure_answer, haldurap_figure_highway, (void *, haldurap_run, uint64_t, uint64_t), run, 1, 1);
     WRITTEN(haldurap_figure_answer, haldurap_figure_cold, (void *, haldurap_run, uint64_t, uint64_t), run, 1, 1);
     WRITTEN(haldurap_sheet_answer, haldurap_sheet, (void *, const uint8_t *, size_t), (const uint8_t *)"x", 1);
+    uint8_t buffer[400];
+    for (size_t room = 16; room <= 17; room++)
+        WRITTEN(haldurap_text_answer, haldurap_report_sheet, (void *, const uint8_t *, size_t, uint8_t *, size_t), (const uint8_t *)"x", 1, buffer, room);
+    for (size_t length = 8; length <= 9; length++)
+        WRITTEN(haldurap_list_answer, haldurap_add_list, (void *, haldurap_head, const uint64_t *, size_t), head, (const uint64_t *)&record, length);
 }
 #else
 static void sizes_written(haldurap_run run) { (void)run; }
@@ -197,14 +210,87 @@ static void answers(haldurap_run run) {
     same(haldurap_figure_cold(run, 1, 6).number, HALDURAP_FUEL_OR_QUANTITY, "figure_answer.number", 2);
     haldurap_layout_answer y = haldurap_layout();
     same(y.version, HALDURAP_LAYOUT, "layout_answer.version", 0), same(y.size, sizeof(haldurap_run), "layout_answer.size", 0);
-    static const char text[] = "  120  100  100  100  100  100  100  100  100  100  100  100  100\n"
-                               " 2   1000  10000  40  40  20  20  60 100\n"
-                               " 0   1000  10000  40  40  20  20  60 100\n";
-    haldurap_sheet_answer s = haldurap_sheet((const uint8_t *)text, 107);
+    haldurap_sheet_answer s = haldurap_sheet((const uint8_t *)text, TAKEN_BYTES);
     same(s.number, 0, "sheet_answer.number", 0), same(s.line, 0, "sheet_answer.line", 0);
     same(memcmp(&s.run, &run, sizeof run), 0, "sheet_answer.run", 0);
-    s = haldurap_sheet((const uint8_t *)text, 148);
+    s = haldurap_sheet((const uint8_t *)text, REFUSED_BYTES);
     same(s.number, HALDURAP_CLASS, "sheet_answer.number", 1), same(s.line, 3, "sheet_answer.line", 1);
+}
+
+/* The sheet's own number and line beside the length and the number 14. */
+static void texts(void) {
+    static const struct {
+        size_t text, buffer;
+        uint64_t number;
+        size_t bytes;
+        uint64_t sheet_number;
+        size_t sheet_line;
+    } wanted[] = {
+        {TAKEN_BYTES, 388, 0, 388, 0, 0},
+        {TAKEN_BYTES, 387, HALDURAP_SHORT_BUFFER, 0, 0, 0},
+        {REFUSED_BYTES, 17, 0, 17, HALDURAP_CLASS, 3},
+        {REFUSED_BYTES, 16, HALDURAP_SHORT_BUFFER, 0, HALDURAP_CLASS, 3},
+        {0, 17, 0, 17, HALDURAP_LINE_SHAPE, 1},
+        {66, 0, 0, 0, 0, 0},
+    };
+    for (int i = 0; i < (int)(sizeof wanted / sizeof wanted[0]); i++) {
+        uint8_t buffer[400];
+        haldurap_text_answer a = haldurap_report_sheet((const uint8_t *)text, wanted[i].text, buffer, wanted[i].buffer);
+        same(a.number, wanted[i].number, "text_answer.number", i), same(a.bytes, wanted[i].bytes, "text_answer.bytes", i);
+        same(a.sheet_number, wanted[i].sheet_number, "text_answer.sheet_number", i);
+        same(a.sheet_line, wanted[i].sheet_line, "text_answer.sheet_line", i);
+    }
+}
+
+/* A list: each value of the answer by itself, and an array of records is the list of their numbers. */
+static void lists(haldurap_run run) {
+    haldurap_record records[5] = {record, record, record, record, record};
+    const uint64_t *numbers = (const uint64_t *)records;
+    haldurap_list_answer a = haldurap_add_list(head, numbers, 9);
+    same(a.number, 0, "list_answer.number", 0), same(a.taken, 1, "list_answer.taken", 0), same(a.place, 0, "list_answer.place", 0);
+    same(a.refused, 0, "list_answer.refused", 0), same(memcmp(&a.run, &run, sizeof run), 0, "list_answer.run", 0);
+    a = haldurap_add_list(head, numbers, 0);
+    same(a.number, 0, "list_answer.number", 1), same(a.taken, 0, "list_answer.taken", 1), same(a.run.trip, 120, "list_answer.run", 1);
+    for (size_t length = 1; length < 9; length++) {
+        a = haldurap_add_list(head, numbers, length);
+        same(a.number, HALDURAP_LINE_SHAPE, "list_answer.number", (int)length), same(a.taken, 0, "list_answer.taken", (int)length);
+        same(a.run.trip, 0, "list_answer.run", (int)length);
+    }
+    haldurap_head cold = head;
+    cold.trip = 9;
+    same(haldurap_add_list(cold, numbers, 9).number, HALDURAP_TRIP_LENGTH, "list_answer.number", 9);
+    same(haldurap_add_list(cold, numbers, 8).number, HALDURAP_LINE_SHAPE, "list_answer.number", 10);
+    /* a number beyond its limit, in each of the nine places of the third record */
+    static const uint64_t why[] = {HALDURAP_CLASS, HALDURAP_VEHICLES, HALDURAP_KILOMETRES, HALDURAP_SHARES, HALDURAP_SHARES, HALDURAP_SHARES,
+                                   HALDURAP_SPEED, HALDURAP_SPEED, HALDURAP_SPEED};
+    for (int i = 0; i < HALDURAP_RECORD_NUMBERS; i++) {
+        uint64_t wrong[5 * HALDURAP_RECORD_NUMBERS];
+        memcpy(wrong, records, sizeof wrong);
+        wrong[2 * HALDURAP_RECORD_NUMBERS + i] += HIGH;
+        a = haldurap_add_list(head, wrong, 5 * HALDURAP_RECORD_NUMBERS);
+        same(a.number, 0, "list_answer.number", i), same(a.taken, 4, "list_answer.taken", i), same(a.place, 3, "list_answer.place", i);
+        same(a.refused, why[i], "list_answer.refused", i), same(a.run.count, 4, "list_answer.run", i);
+    }
+    /* each number of a record where the record has it: the list's run is that of the add */
+    for (int i = 0; i < HALDURAP_RECORD_NUMBERS; i++) {
+        haldurap_record one = {2, 1000, 10000, {40, 40, 20}, {20, 60, 100}};
+        uint64_t *place = (uint64_t *)&one + i;
+        if (i < 3 || i > 5) *place += 1; else *place += 10, ((uint64_t *)&one)[3 + (i - 2) % 3] -= 10;
+        haldurap_run_answer added = haldurap_add(haldurap_open(head).run, one);
+        a = haldurap_add_list(head, (const uint64_t *)&one, HALDURAP_RECORD_NUMBERS);
+        same(added.number, 0, "changed record", i), same(memcmp(&a.run, &added.run, sizeof a.run), 0, "list_answer.run", 100 + i);
+        same(memcmp(&a.run, &run, sizeof run) != 0, 1, "changed run", i);
+    }
+}
+
+/* In order, and each word out of it. */
+static void orders(haldurap_run run) {
+    same(haldurap_in_order(run), 1, "in_order", 0), same(haldurap_in_order(haldurap_open(head).run), 1, "in_order", 1);
+    for (int i = 0; i < 140; i++) {
+        haldurap_run bad = run;
+        ((uint64_t *)&bad)[i] |= 1ull << 63;
+        same(haldurap_in_order(bad), 0, "in_order of a damaged word", i);
+    }
 }
 
 int main(void) {
@@ -214,6 +300,9 @@ int main(void) {
     inputs(fresh);
     runs(fresh);
     answers(run);
+    texts();
+    lists(run);
+    orders(run);
     printf("C: %d sizes, offsets and values compared, %s\n", checked, failed ? "SOME DIFFER" : "all the same");
     return failed;
 }

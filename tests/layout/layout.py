@@ -32,6 +32,8 @@ DOCUMENTED = {
     h.GramsAnswer: (16, {"number": 0, "grams": 8}),
     h.BalanceAnswer: (24, {"number": 0, "k": 8, "grams": 16}),
     h.LengthAnswer: (16, {"number": 0, "bytes": 8}),
+    h.TextAnswer: (32, {"number": 0, "bytes": 8, "sheet_number": 16, "sheet_line": 24}),
+    h.ListAnswer: (1152, {"number": 0, "taken": 8, "place": 16, "refused": 24, "run": 32}),
     h.MapRowAnswer: (40, {"number": 0, "urban": 8, "rural": 16, "highway": 24, "cold": 32}),
     h.FigureAnswer: (24, {"number": 0, "given": 8, "grams": 16}),
     h.SheetAnswer: (1136, {"number": 0, "line": 8, "run": 16}),
@@ -70,9 +72,10 @@ def sizes_written(run):
     beforehand, it shows which bytes the archive writes."""
     if platform.machine() != "x86_64" or os.name != "posix":
         return
-    values = {"open": (head(),), "add": (run, record()), "balance": (run, 1, 1, 1000), "sheet": ((c_uint8 * 1)(120), 1)}
-    for name in ("open", "add", "balance", "map_row", "figure_urban", "figure_rural", "figure_highway", "figure_cold", "sheet"):
-        parameters, answer = h.CALLS[name]
+    values = {"open": (head(),), "add": (run, record()), "balance": (run, 1, 1, 1000), "sheet": ((c_uint8 * 1)(120), 1),
+              "report_sheet": ((c_uint8 * 1)(120), 1, (c_uint8 * 17)(), 17), "add_list": (head(), (c_uint64 * 9)(*record().numbers()), 9)}
+    for name in ("open", "add", "balance", "map_row", "figure_urban", "figure_rural", "figure_highway", "figure_cold", "sheet", "report_sheet", "add_list"):
+        parameters, answer = h._CALLS[name]
         raw = ctypes.CFUNCTYPE(c_void_p, c_void_p, *parameters)(("haldurap_" + name, h._lib))
         places = [(c_uint8 * 4096)(*[byte] * 4096) for byte in (0, 255)]
         for place in places:
@@ -84,11 +87,11 @@ def inputs(run):
     """Each field of a head and a record: a bad value is refused with its own number, a good one has its own effect."""
     high = 1 << 32  # beyond the lower half of a word
     for trip in (9, high + 120):
-        same(h.call("open")(h.head(trip, [100] * 12)).number, 1, "Head.trip")
+        same(h._call("open")(h.head(trip, [100] * 12)).number, 1, "Head.trip")
     for i in range(12):
         for t in (-301, high + 100):
-            same(h.call("open")(h.head(120, [100] * i + [t] + [100] * (11 - i))).number, 2, "Head.temps")
-    add = h.call("add")
+            same(h._call("open")(h.head(120, [100] * i + [t] + [100] * (11 - i))).number, 2, "Head.temps")
+    add = h._call("add")
     for number, fields in ((3, {"vehicle_class": 0}), (4, {"vehicles": 0}), (5, {"km": 0}),
                            (3, {"vehicle_class": high + 2}), (4, {"vehicles": high + 1000}), (5, {"km": high + 10000}),
                            (7, {"shares": (41, 40, 20)}), (7, {"shares": (40, 41, 20)}), (7, {"shares": (40, 40, 21)}),
@@ -103,7 +106,7 @@ def inputs(run):
 
 def runs(fresh):
     """Each word of a run: its limit tells the field, and its effect tells the place in it."""
-    total, add = h.call("total"), h.call("add")
+    total, add = h._call("total"), h._call("add")
     fresh = changed(fresh, count=3)
 
     def limit(name, most, places=None):
@@ -118,7 +121,7 @@ def runs(fresh):
     limit("km", 3000000000, 3)
     limit("grams", 3000000000000, 60)
     limit("rests", 999999999, 60)
-    kinds = [h.call(kind) for kind in ("urban", "rural", "highway", "cold")]
+    kinds = [h._call(kind) for kind in ("urban", "rural", "highway", "cold")]
     for i in range(60):
         # a sum alone in the run is printed at its fuel, quantity and kind, and nowhere else
         run = changed(fresh, grams=(i, 1000 + i), rests=(i, 500000000))
@@ -147,28 +150,63 @@ def fields(answer):
 
 
 def answers(run):
-    a = h.call("open")(head())
+    a = h._call("open")(head())
     same((a.number, a.run.trip, a.run.count, a.run.x[:5]), (0, 120, 0, [532440000, 23664000, 354960000, 0, 112404000]), "RunAnswer")
-    same(fields(h.call("total")(run, 1, 1)), (0, 27132182), "GramsAnswer")
-    same(fields(h.call("total")(run, 4, 1)), (11, 0), "GramsAnswer")
-    same(fields(h.call("balance")(run, 1, 1, 1000)), (0, 1039246, 28197012), "BalanceAnswer")
-    same(fields(h.call("balance")(run, 1, 1, 481)), (13, 0, 0), "BalanceAnswer")
+    same(fields(h._call("total")(run, 1, 1)), (0, 27132182), "GramsAnswer")
+    same(fields(h._call("total")(run, 4, 1)), (11, 0), "GramsAnswer")
+    same(fields(h._call("balance")(run, 1, 1, 1000)), (0, 1039246, 28197012), "BalanceAnswer")
+    same(fields(h._call("balance")(run, 1, 1, 481)), (13, 0, 0), "BalanceAnswer")
     buffer = (c_uint8 * 400)()
-    same(fields(h.call("report")(run, buffer, 400)), (0, 388), "LengthAnswer")
-    same(fields(h.call("report")(run, buffer, 387)), (14, 0), "LengthAnswer")
-    same(fields(h.call("map_row")(run, 1, 1)), (0, 6038000.0, 6118000.0, 6939000.0, 8037182.0), "MapRowAnswer")
-    same(fields(h.call("map_row")(run, 0, 1)), (11, 0.0, 0.0, 0.0, 0.0), "MapRowAnswer")
-    same(fields(h.call("figure_cold")(run, 1, 1)), (0, 1, 8037182.0), "FigureAnswer")
-    same(fields(h.call("figure_cold")(run, 1, 4)), (0, 0, 0.0), "FigureAnswer")
-    same(fields(h.call("figure_cold")(run, 1, 6)), (11, 0, 0.0), "FigureAnswer")
-    same(fields(h.call("layout")()), (h.LAYOUT, sizeof(h.Run)), "LayoutAnswer")
+    same(fields(h._call("report")(run, buffer, 400)), (0, 388), "LengthAnswer")
+    same(fields(h._call("report")(run, buffer, 387)), (14, 0), "LengthAnswer")
+    same(fields(h._call("map_row")(run, 1, 1)), (0, 6038000.0, 6118000.0, 6939000.0, 8037182.0), "MapRowAnswer")
+    same(fields(h._call("map_row")(run, 0, 1)), (11, 0.0, 0.0, 0.0, 0.0), "MapRowAnswer")
+    same(fields(h._call("figure_cold")(run, 1, 1)), (0, 1, 8037182.0), "FigureAnswer")
+    same(fields(h._call("figure_cold")(run, 1, 4)), (0, 0, 0.0), "FigureAnswer")
+    same(fields(h._call("figure_cold")(run, 1, 6)), (11, 0, 0.0), "FigureAnswer")
+    same(fields(h._call("layout")()), (h.LAYOUT, sizeof(h.Run)), "LayoutAnswer")
     text = (b"  120" + b"  100" * 12 + b"\n 2   1000  10000  40  40  20  20  60 100\n"
             b" 0   1000  10000  40  40  20  20  60 100\n")
-    a = h.call("sheet")(h._bytes(text), 107)
+    a = h._call("sheet")(h._bytes("text", text)[0], 107)
     same((a.number, a.line, bytes(a.run)), (0, 0, bytes(run)), "SheetAnswer")
-    a = h.call("sheet")(h._bytes(text), len(text))
+    a = h._call("sheet")(*h._bytes("text", text))
     same((a.number, a.line, bytes(a.run)), (3, 3, bytes(1120)), "SheetAnswer")
-    same(h.report_sheet(text), b"REFUSED  3     3\n", "report_sheet")
+    same(h.report_sheet(text), (b"REFUSED  3     3\n", 3, 3), "report_sheet")
+    for length, room, wanted in ((107, 388, (0, 388, 0, 0)), (107, 387, (14, 0, 0, 0)), (148, 17, (0, 17, 3, 3)), (148, 16, (14, 0, 3, 3)),
+                                 (0, 17, (0, 17, 10, 1)), (66, 0, (0, 0, 0, 0))):
+        same(fields(h._call("report_sheet")(h._bytes("text", text)[0], length, (c_uint8 * 400)(), room)), wanted, "TextAnswer")
+
+
+def lists(fresh, run):
+    """A list: each value of the answer by itself, and the numbers of a record in the order of its fields."""
+    def added(numbers, a_head=None):
+        a = h._call("add_list")(a_head or head(), (c_uint64 * max(len(numbers), 1))(*numbers), len(numbers))
+        return (a.number, a.taken, a.place, a.refused, bytes(a.run))
+
+    numbers = record().numbers()
+    same(numbers, [2, 1000, 10000, 40, 40, 20, 20, 60, 100], "Record.numbers")
+    same(added(numbers), (0, 1, 0, 0, bytes(run)), "ListAnswer")
+    same(added([]), (0, 0, 0, 0, bytes(fresh)), "ListAnswer")
+    for length in range(1, 9):
+        for a_head in (head(), h.head(9, [100] * 12)):
+            same(added(numbers[:length], a_head), (10, 0, 0, 0, bytes(1120)), "ListAnswer")
+    same(added(numbers, h.head(9, [100] * 12)), (1, 0, 0, 0, bytes(1120)), "ListAnswer")
+    same(added(numbers, h.head(120, [401] * 12)), (2, 0, 0, 0, bytes(1120)), "ListAnswer")
+    four = h._call("add_list")(head(), (c_uint64 * 36)(*numbers * 4), 36).run
+    for i, why in enumerate((3, 4, 5, 7, 7, 7, 8, 8, 8)):
+        # a number beyond its limit, in each of the nine places of the third record
+        wrong = numbers * 5
+        wrong[18 + i] += 1 << 32
+        same(added(wrong), (0, 4, 3, why, bytes(four)), "ListAnswer")
+
+
+def orders(fresh, run):
+    """In order, and each word out of it."""
+    same((h.in_order(fresh), h.in_order(run), h.in_order(h.Run())), (True, True, False), "in_order")
+    for i in range(140):
+        data = bytearray(run)
+        data[8 * i + 7] |= 128
+        same(h._call("in_order")(h.Run.from_buffer_copy(data)), 0, "in_order of a damaged word")
 
 
 def main():
@@ -179,6 +217,8 @@ def main():
     inputs(fresh)
     runs(fresh)
     answers(run)
+    lists(fresh, run)
+    orders(fresh, run)
     print("Python: %d sizes, offsets and values compared, %s" % (done, "SOME DIFFER" if failed else "all the same"))
     sys.exit(1 if failed else 0)
 

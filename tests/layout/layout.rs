@@ -29,6 +29,8 @@ const RECORD: Record = Record {
     speeds: Speeds { urban: 20, rural: 60, highway: 100 },
 };
 
+const ZEROS: Run = Run { trip: 0, x: [0; 15], count: 0, km: [0; 3], grams: [0; 60], rests: [0; 60] };
+
 macro_rules! struct_is {
     ($c:ident, $type:ident, $size:expr, $($field:ident $offset:expr),*) => {
         $c.same(size_of::<$type>(), $size, concat!("size of ", stringify!($type)));
@@ -53,6 +55,8 @@ fn as_documented(c: &mut Check) {
     struct_is!(c, GramsAnswer, 16, number 0, grams 8);
     struct_is!(c, BalanceAnswer, 24, number 0, k 8, grams 16);
     struct_is!(c, LengthAnswer, 16, number 0, bytes 8);
+    struct_is!(c, TextAnswer, 32, number 0, bytes 8, sheet_number 16, sheet_line 24);
+    struct_is!(c, ListAnswer, 1152, number 0, taken 8, place 16, refused 24, run 32);
     struct_is!(c, MapRowAnswer, 40, number 0, urban 8, rural 16, highway 24, cold 32);
     struct_is!(c, FigureAnswer, 24, number 0, given 8, grams 16);
     struct_is!(c, SheetAnswer, 1136, number 0, line 8, run 16);
@@ -93,6 +97,16 @@ fn sizes_written(c: &mut Check, run: Run) {
     let raw: extern "C" fn(*mut u8, *const u8, usize) -> *mut u8 =
         unsafe { transmute(haldurap_sheet as unsafe extern "C" fn(*const u8, usize) -> SheetAnswer) };
     written(c, size_of::<SheetAnswer>(), "sheet", |p| raw(p, b"x".as_ptr(), 1));
+    type Text = unsafe extern "C" fn(*const u8, usize, *mut u8, usize) -> TextAnswer;
+    let raw: extern "C" fn(*mut u8, *const u8, usize, *mut u8, usize) -> *mut u8 = unsafe { transmute(haldurap_report_sheet as Text) };
+    for room in [16, 17] {
+        written(c, size_of::<TextAnswer>(), "report_sheet", |p| raw(p, b"x".as_ptr(), 1, [0; 17].as_mut_ptr(), room));
+    }
+    type List = unsafe extern "C" fn(Head, *const u64, usize) -> ListAnswer;
+    let raw: extern "C" fn(*mut u8, Head, *const u64, usize) -> *mut u8 = unsafe { transmute(haldurap_add_list as List) };
+    for length in [8, 9] {
+        written(c, size_of::<ListAnswer>(), "add_list", |p| raw(p, HEAD, RECORD.numbers().as_ptr(), length));
+    }
 }
 
 #[cfg(not(all(target_arch = "x86_64", unix)))]
@@ -198,15 +212,76 @@ fn answers(c: &mut Check, run: Run) {
     c.same(report(run, &mut [0; 387]), LengthAnswer { number: 14, bytes: 0 }, "LengthAnswer");
     let row = MapRowAnswer { number: 0, urban: 6_038_000.0, rural: 6_118_000.0, highway: 6_939_000.0, cold: 8_037_182.0 };
     c.same(haldurap_map_row(run, 1, 1), row, "MapRowAnswer");
-    c.same(haldurap_map_row(run, 0, 1).number, 11, "MapRowAnswer");
+    c.same(haldurap_map_row(run, 0, 1), MapRowAnswer { number: 11, urban: 0.0, rural: 0.0, highway: 0.0, cold: 0.0 }, "MapRowAnswer");
     c.same(haldurap_figure_cold(run, 1, 1), FigureAnswer { number: 0, given: 1, grams: 8_037_182.0 }, "FigureAnswer");
     c.same(haldurap_figure_cold(run, 1, 4), FigureAnswer { number: 0, given: 0, grams: 0.0 }, "FigureAnswer");
     c.same(haldurap_figure_cold(run, 1, 6), FigureAnswer { number: 11, given: 0, grams: 0.0 }, "FigureAnswer");
     c.same(haldurap_layout(), LayoutAnswer { version: LAYOUT, size: size_of::<Run>() as u64 }, "LayoutAnswer");
     let text = b"  120  100  100  100  100  100  100  100  100  100  100  100  100\n 2   1000  10000  40  40  20  20  60 100\n 0   1000  10000  40  40  20  20  60 100\n";
     c.same(sheet(&text[..107]), SheetAnswer { number: 0, line: 0, run }, "SheetAnswer");
-    let zeros = Run { trip: 0, x: [0; 15], count: 0, km: [0; 3], grams: [0; 60], rests: [0; 60] };
-    c.same(sheet(text), SheetAnswer { number: 3, line: 3, run: zeros }, "SheetAnswer");
+    c.same(sheet(text), SheetAnswer { number: 3, line: 3, run: ZEROS }, "SheetAnswer");
+    let texts = [
+        (107, 388, TextAnswer { number: 0, bytes: 388, sheet_number: 0, sheet_line: 0 }),
+        (107, 387, TextAnswer { number: 14, bytes: 0, sheet_number: 0, sheet_line: 0 }),
+        (148, 17, TextAnswer { number: 0, bytes: 17, sheet_number: 3, sheet_line: 3 }),
+        (148, 16, TextAnswer { number: 14, bytes: 0, sheet_number: 3, sheet_line: 3 }),
+        (0, 17, TextAnswer { number: 0, bytes: 17, sheet_number: 10, sheet_line: 1 }),
+        (66, 0, TextAnswer { number: 0, bytes: 0, sheet_number: 0, sheet_line: 0 }),
+    ];
+    for (length, room, wanted) in texts {
+        c.same(report_sheet(&text[..length], &mut vec![0; room]), wanted, "TextAnswer");
+    }
+}
+
+/// A list: each value of the answer by itself, and the numbers of a record in the order of its fields.
+fn lists(c: &mut Check, fresh: Run, run: Run) {
+    let numbers = RECORD.numbers();
+    c.same(add_list(HEAD, &numbers), ListAnswer { number: 0, taken: 1, place: 0, refused: 0, run }, "ListAnswer");
+    c.same(add_list(HEAD, &[]), ListAnswer { number: 0, taken: 0, place: 0, refused: 0, run: fresh }, "ListAnswer");
+    let refused = |number| ListAnswer { number, taken: 0, place: 0, refused: 0, run: ZEROS };
+    for length in 1..9 {
+        c.same(add_list(HEAD, &numbers[..length]), refused(LINE_SHAPE), "ListAnswer");
+        c.same(add_list(Head { trip: 9, ..HEAD }, &numbers[..length]), refused(LINE_SHAPE), "ListAnswer");
+    }
+    c.same(add_list(Head { trip: 9, ..HEAD }, &numbers), refused(TRIP_LENGTH), "ListAnswer");
+    c.same(add_list(Head { temps: [401; 12], ..HEAD }, &numbers), refused(TEMPERATURE), "ListAnswer");
+    // a number beyond its limit, in each of the nine places of the third record
+    for (i, why) in [CLASS, VEHICLES, KILOMETRES, SHARES, SHARES, SHARES, SPEED, SPEED, SPEED].into_iter().enumerate() {
+        let mut wrong = numbers.repeat(5);
+        wrong[2 * RECORD_NUMBERS + i] += 1 << 32;
+        let a = add_list(HEAD, &wrong);
+        c.same((a.number, a.taken, a.place, a.refused, a.run.count), (0, 4, 3, why, 4), "ListAnswer");
+    }
+    // each number of a record where the record has it: the list's run is that of the add
+    let fields: [fn(&mut Record) -> &mut u64; 9] = [
+        |r| &mut r.class, |r| &mut r.vehicles, |r| &mut r.km, |r| &mut r.shares.urban, |r| &mut r.shares.rural, |r| &mut r.shares.highway,
+        |r| &mut r.speeds.urban, |r| &mut r.speeds.rural, |r| &mut r.speeds.highway,
+    ];
+    for i in 0..9 {
+        let (mut record, mut numbers) = (RECORD, numbers);
+        let mut change = |at: usize, by: u64| {
+            *fields[at](&mut record) = fields[at](&mut record).wrapping_add(by);
+            numbers[at] = numbers[at].wrapping_add(by);
+        };
+        change(i, if (3..6).contains(&i) { 10 } else { 1 });
+        if (3..6).contains(&i) {
+            change(3 + (i - 2) % 3, 10u64.wrapping_neg());
+        }
+        let added = haldurap_add(fresh, record);
+        c.same((added.number, added.run != run), (0, true), "a changed record");
+        c.same(add_list(HEAD, &numbers), ListAnswer { number: 0, taken: 1, place: 0, refused: 0, run: added.run }, "a changed list");
+        c.same(record.numbers(), numbers, "Record::numbers");
+    }
+}
+
+/// In order, and each word out of it.
+fn orders(c: &mut Check, fresh: Run, run: Run) {
+    c.same((in_order(fresh), in_order(run), in_order(ZEROS)), (true, true, false), "in_order");
+    for i in 0..140 {
+        let mut words: [u64; 140] = unsafe { transmute(run) };
+        words[i] |= 1 << 63;
+        c.same(haldurap_in_order(unsafe { transmute::<[u64; 140], Run>(words) }), 0, "in_order of a damaged word");
+    }
 }
 
 fn main() {
@@ -218,6 +293,8 @@ fn main() {
     inputs(&mut c, fresh);
     runs(&mut c, fresh);
     answers(&mut c, run);
+    lists(&mut c, fresh, run);
+    orders(&mut c, fresh, run);
     println!("Rust: {} sizes, offsets and values compared, {}", c.done, if c.failed { "SOME DIFFER" } else { "all the same" });
     std::process::exit(c.failed as i32);
 }

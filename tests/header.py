@@ -1,0 +1,159 @@
+"""The header as a compiler and a linker see it, and the three declarations against each other.
+
+    python3 tests/header.py
+
+- include/haldurap.h compiles by itself as C11 and C99 and as C++17 and C++11, without a warning.
+- Each call, with its answer dropped, is warned about in C, C++ and Rust.
+- Calls and constants of the header, of include/haldurap.rs and of examples/haldurap.py are the same.
+- The archive defines exactly the header's calls, and needs nothing but memcpy and memset.
+
+Needs the archive and the shared object (tests/archive.sh). Exits 1 where one of these does not hold.
+"""
+import os
+import re
+import subprocess
+import sys
+import tempfile
+
+ROOT = os.path.normpath(os.path.join(os.path.dirname(os.path.abspath(__file__)), ".."))
+HEADER = os.path.join(ROOT, "include", "haldurap.h")
+RUST = os.path.join(ROOT, "include", "haldurap.rs")
+ARCHIVE = os.path.join(ROOT, "target", "libhaldurap.a")
+sys.path.insert(0, os.path.join(ROOT, "examples"))
+
+done = failed = 0
+
+
+def same(found, wanted, what):
+    global done, failed
+    done += 1
+    if found != wanted:
+        failed += 1
+        print("%s:\n  found  %s\n  wanted %s" % (what, found, wanted))
+
+
+def run(*words):
+    # the compilers' words are read, so they have to be the English ones
+    ended = subprocess.run(words, capture_output=True, text=True, env={**os.environ, "LC_ALL": "C.UTF-8"})
+    return ended.returncode, ended.stdout + ended.stderr
+
+
+def read(path):
+    with open(path, encoding="utf-8") as file:
+        return file.read()
+
+
+def without_comments(text):
+    return re.sub(r"//[^\n]*", "", re.sub(r"/\*.*?\*/", "", text, flags=re.S))
+
+
+# ---- What the three files declare
+
+def header_calls(text):
+    """Name, answer and number of parameters of each call."""
+    found = re.findall(r"(\w*) ?\b(haldurap_\w+|uint64_t) (haldurap_\w+)\(([^)]*)\);", text)
+    return {name: (mark, answer, 0 if parameters == "void" else parameters.count(",") + 1) for mark, answer, name, parameters in found}
+
+
+def header_constants(text):
+    """The enumerators and the limits, without the prefix."""
+    found = dict(re.findall(r"\bHALDURAP_(\w+) = (\d+)", text))
+    found.update(re.findall(r"^#define HALDURAP_(\w+) +(\d+)", text, re.M))
+    return {name: int(value) for name, value in found.items()}
+
+
+def rust_calls(text):
+    found = re.findall(r"\bfn (haldurap_\w+)\(([^)]*)\)", text)
+    return {name: parameters.count(":") for name, parameters in found}
+
+
+def rust_constants(text):
+    return {name: int(value) for name, value in re.findall(r"^pub const (\w+): \w+ = (\d+);", text, re.M)}
+
+
+def declarations(calls, constants):
+    import haldurap as python
+    rust = without_comments(read(RUST))
+    same(rust_constants(rust), constants, "constants of haldurap.rs")
+    same({name: getattr(python, name, None) for name in constants}, constants, "constants of haldurap.py")
+    numbers = {name: count for name, (_, _, count) in calls.items()}
+    same(rust_calls(rust), numbers, "calls of haldurap.rs and their parameters")
+    same({"haldurap_" + name: len(words) for name, (words, _) in python._CALLS.items()}, numbers, "calls of haldurap.py and their parameters")
+    same(sorted(python.MEANINGS), list(range(1, 17)), "meanings of haldurap.py")
+
+
+# ---- The compilers
+
+def compiled(calls, folder):
+    for name, compiler, standard in (("c", "gcc", "c11"), ("c", "gcc", "c99"), ("cc", "g++", "c++17"), ("cc", "g++", "c++11")):
+        words = [compiler, "-std=" + standard, "-Wall", "-Wextra", "-Wpedantic", "-Werror", "-I" + os.path.dirname(HEADER)]
+        alone = os.path.join(folder, "alone." + name)
+        with open(alone, "w", encoding="utf-8") as file:
+            file.write("#include <haldurap.h>\n#include <haldurap.h>\n")
+        same(run(*words, "-c", "-o", os.path.join(folder, "alone.o"), alone), (0, ""), "haldurap.h as %s" % standard)
+        dropped = os.path.join(folder, "dropped." + name)
+        with open(dropped, "w", encoding="utf-8") as file:
+            file.write("#include <haldurap.h>\n%s\nint main(void) {\n" % ARGUMENTS_C)
+            for call, (_, _, count) in calls.items():
+                file.write("    %s(%s);\n" % (call, ", ".join(ARGUMENTS[call]) if call in ARGUMENTS else "run, 1, 1"))
+            file.write("}\n")
+        status, said = run(*words, "-c", "-o", os.path.join(folder, "dropped.o"), dropped)
+        warned = set(re.findall(r"ignoring return value of [^\n]*?\b(haldurap_\w+)\b(?=\(|[’'])", said))
+        same((status != 0, sorted(warned)), (True, sorted(calls)), "dropped answers as %s" % standard)
+    dropped = os.path.join(folder, "dropped.rs")
+    with open(dropped, "w", encoding="utf-8") as file:
+        file.write('#[path = "%s"]\nmod haldurap;\nuse haldurap::*;\npub fn dropped(head: Head, record: Record, run: Run, text: *mut u8, numbers: *const u64) {\n' % RUST)
+        for call in calls:
+            file.write("    unsafe { %s(%s); }\n" % (call, ", ".join(ARGUMENTS[call]) if call in ARGUMENTS else "run, 1, 1"))
+        file.write("    in_order(run);\n    add_list(head, &[]);\n    report(run, &mut []);\n    sheet(&[]);\n    report_sheet(&[], &mut []);\n}\n")
+    status, said = run("rustc", "--edition", "2024", "--crate-type", "lib", "-A", "unused_unsafe", "-D", "unused_must_use", "--emit", "metadata",
+                       "-o", os.path.join(folder, "dropped.rmeta"), dropped)
+    same((status != 0, said.count("that must be used")), (True, len(calls) + 5), "dropped answers in Rust")
+
+
+# What each call that is no question of fuel and quantity is handed.
+ARGUMENTS = {
+    "haldurap_layout": [],
+    "haldurap_open": ["head"],
+    "haldurap_add": ["run", "record"],
+    "haldurap_add_list": ["head", "numbers", "0"],
+    "haldurap_in_order": ["run"],
+    "haldurap_balance": ["run", "1", "1", "1"],
+    "haldurap_report": ["run", "text", "0"],
+    "haldurap_sheet": ["text", "0"],
+    "haldurap_report_sheet": ["text", "0", "text", "0"],
+}
+ARGUMENTS_C = """extern haldurap_head head;
+extern haldurap_record record;
+extern haldurap_run run;
+extern uint8_t text[1];
+extern uint64_t numbers[1];
+"""
+
+
+def linked(calls):
+    status, said = run("nm", ARCHIVE)
+    same(status, 0, "nm")
+    symbols = [line.split()[-2:] for line in said.splitlines() if re.search(r" [A-Za-z] \S+$", line)]
+    defined = {name for kind, name in symbols if kind == "T"}
+    same(sorted(defined), sorted(calls), "what the archive shows")
+    needed = {name for kind, name in symbols if kind == "U"} - {name for kind, name in symbols if kind != "U"}
+    same(sorted(needed - {"_GLOBAL_OFFSET_TABLE_"}), sorted(needed & {"memcpy", "memset"}), "what the archive needs")
+    same([name for kind, name in symbols if kind in "bBdDcC"], [], "the archive's variables")
+
+
+def main():
+    text = without_comments(read(HEADER))
+    calls = header_calls(text)
+    same(len(calls), text.count("HALDURAP_ANSWER haldurap_") + text.count("HALDURAP_ANSWER uint64_t"), "calls that are marked")
+    same({mark for mark, _, _ in calls.values()}, {"HALDURAP_ANSWER"}, "the mark of every call")
+    declarations(calls, header_constants(text))
+    with tempfile.TemporaryDirectory() as folder:
+        compiled(calls, folder)
+    linked(calls)
+    print("%d calls, %d comparisons, %d wrong" % (len(calls), done, failed))
+    sys.exit(1 if failed else 0)
+
+
+if __name__ == "__main__":
+    main()

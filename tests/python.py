@@ -1,0 +1,341 @@
+"""examples/haldurap.py: every call of the header against the independent calculation (tools/reference.py), every refusal with
+its number and text, and ValueError with the argument's name for what is no argument.
+
+    python3 tests/python.py
+
+Needs the shared object (tests/archive.sh). Prints `N compared, M wrong`, and exits 1 where one is wrong.
+"""
+import os
+import pickle
+import random
+import re
+import sys
+
+ROOT = os.path.normpath(os.path.join(os.path.dirname(os.path.abspath(__file__)), ".."))
+for folder in ("examples", "tools"):
+    sys.path.insert(0, os.path.join(ROOT, folder))
+import haldurap as h  # noqa: E402
+import reference as ref  # noqa: E402
+import sheets  # noqa: E402
+import vectors  # noqa: E402
+
+done = failed = 0
+
+
+def same(found, wanted, what):
+    global done, failed
+    done += 1
+    if found != wanted:
+        failed += 1
+        print("%s:\n  found  %r\n  wanted %r" % (what, found, wanted))
+
+
+def outcome(function, *arguments):
+    """What a call gives, or the refusal's number and line, or the text of its ValueError."""
+    try:
+        return function(*arguments)
+    except h.Refused as refused:
+        same(str(refused).startswith("refused with %d" % refused.number) and h.MEANINGS[refused.number] in str(refused), True, "text of %r" % refused)
+        return "refused", refused.number, refused.line
+    except ValueError as error:
+        return "ValueError: %s" % error
+
+
+def refused(number, line=None):
+    return "refused", number, line
+
+
+# ---- The same values on both sides
+
+def head_of(head):
+    return h.head(*head)
+
+
+def record_of(record):
+    return h.record(*record)
+
+
+def numbers_of(records):
+    return [n for cls, vehicles, km, shares, speeds in records for n in (cls, vehicles, km, *shares, *speeds)]
+
+
+def run_of(run):
+    """A run of the reference as a struct."""
+    made = h.Run()
+    made.trip, made.count = run.trip, run.count
+    made.x, made.km = run.x.values(), run.km.values()
+    made.grams, made.rests = [run.grams[place] for place in vectors.PLACES], [run.rests[place] for place in vectors.PLACES]
+    return made
+
+
+def words(run):
+    return [run.trip, *run.x, run.count, *run.km, *run.grams, *run.rests]
+
+
+def same_run(found, wanted, what):
+    same(words(found), words(run_of(wanted)), what)
+
+
+# ---- Values
+
+def either(number, value):
+    return refused(number) if number else value
+
+
+def questions(run, wanted, rng):
+    """Every question of a run."""
+    same(h.in_order(run), ref.in_order(wanted), "in_order")
+    for fuel in (0, 1, 2, 3, 4, 2**64 - 1):
+        for quantity in (0, 1, 2, 3, 4, 5, 6, 2**64 - 1):
+            where = "of fuel %d, quantity %d" % (fuel, quantity)
+            same(outcome(h.total, run, fuel, quantity), either(*ref.total(wanted, fuel, quantity)), "total " + where)
+            kinds = []
+            for kind in ref.KINDS:
+                number, grams = ref.kind_total(wanted, fuel, quantity, kind)
+                kinds.append(grams)
+                same(outcome(getattr(h, kind), run, fuel, quantity), either(number, grams), kind + " " + where)
+                number, floats = ref.figure(wanted, fuel, quantity, kind)
+                figure = either(number, floats and floats[0])
+                same(outcome(h.figure, run, fuel, quantity, kind), figure, "figure %s %s" % (kind, where))
+                same(outcome(getattr(h, "figure_" + kind), run, fuel, quantity), figure, "figure_%s %s" % (kind, where))
+            same(outcome(h.kinds, run, fuel, quantity), either(number, tuple(kinds)), "kinds " + where)
+            number, floats = ref.row(wanted, fuel, quantity)
+            same(outcome(h.map_row, run, fuel, quantity), either(number, tuple(floats)), "map_row " + where)
+            used = ref.total(wanted, fuel, 5)[1] // 10**6
+            for sold in (0, used, rng.randrange(used // 2, 2 * used + 2), 10**9, 2**64 - 1):
+                number, k, grams = ref.balance(wanted, fuel, quantity, sold)
+                same(outcome(h.balance, run, fuel, quantity, sold), either(number, (k, grams)), "balance %s, %d sold" % (where, sold))
+        for name in ("co2", "so2", "lead"):
+            for content in (0, 1, 1000, 1001, 1800, 4000, 4001, 10000, 10001, 2**64 - 1):
+                number, grams = getattr(ref, name)(wanted, fuel, content)
+                same(outcome(getattr(h, name), run, fuel, content), either(number, grams), "%s of fuel %d with %d" % (name, fuel, content))
+    number, length, buffer = ref.write_report(wanted, b"\0" * h.REPORT_BYTES)
+    same(outcome(h.report, run), either(number, buffer[:length]), "report")
+
+
+def runs(rng):
+    """Runs of opening, adding and lists, and runs out of order."""
+    same(h.layout(), (h.LAYOUT, 1120), "layout")
+    fleet = [vectors.some_record(rng) for _ in range(30)]
+    fleet[7:7] = [(8, 1, 1, (100, 0, 0), (10, 10, 10)), (2, 10**6, 1001, (40, 40, 20), (20, 60, 100))]
+    head = sheets.some_head(rng)
+    number, wanted = ref.open_run(head)
+    run = h.open_run(head_of(head))
+    same_run(run, wanted, "open_run")
+    questions(run, wanted, rng)
+    for record in fleet:
+        before = bytes(run)
+        number, wanted = ref.add(wanted, record)
+        after = outcome(h.add, run, record_of(record))
+        same(bytes(run), before, "the run handed in")
+        if number:
+            same(after, refused(number), "add %s" % (record,))
+        else:
+            run = after
+            same_run(run, wanted, "add %s" % (record,))
+    questions(run, wanted, rng)
+    for field, value in (("trip", 9), ("count", 5001), ("count", 0)):
+        bad, bad_wanted = h.Run.from_buffer_copy(run), wanted.copy()
+        setattr(bad, field, value)
+        setattr(bad_wanted, field, value)
+        questions(bad, bad_wanted, rng)
+        same(outcome(h.add, bad, record_of(fleet[0])), refused(16), "add to a run out of order")
+    for trip, temps in ((9, [100] * 12), (120, [100] * 11 + [401]), (2**64 - 1, [-2**63] * 12)):
+        number, _ = ref.open_run((trip, temps))
+        same(outcome(h.open_run, h.head(trip, temps)), refused(number), "open_run of L %d" % trip)
+        same(outcome(h.add_list, h.head(trip, temps), []), refused(number), "add_list of L %d" % trip)
+        same(outcome(h.add_list, h.head(trip, temps), [1]), refused(10), "add_list of L %d, one number" % trip)
+
+    def listed(records, numbers, what):
+        number, taken, place, why, wanted = ref.add_list(head, numbers)
+        found = outcome(h.add_list, head_of(head), records)
+        if number:
+            same(found, refused(number), what)
+        else:
+            same((found.taken, found.place, found.refused), (taken, place, why), what)
+            same_run(found.run, wanted, what)
+
+    numbers = numbers_of(fleet)
+    listed([record_of(record) for record in fleet], numbers, "add_list of records")
+    listed(numbers, numbers, "add_list of numbers")
+    listed(iter(map(record_of, fleet)), numbers, "add_list of an iterator")
+    for length in range(20):
+        listed(numbers[:length], numbers[:length], "add_list of %d numbers" % length)
+    full = numbers_of([vectors.EXAMPLE]) * 5001
+    listed(full, full, "add_list of 5,001 records")
+    number, run = 0, h.add_list(head_of(head), full).run
+    same(outcome(h.add, run, record_of(vectors.EXAMPLE)), refused(9), "add to a full run")
+
+
+def texts(rng):
+    """Sheets that are taken and refused: the run, or number and line; the text with number and line."""
+    cases = [sheets.some_sheet(rng, n) for n in (0, 1, 5, 40)]
+    cases += [sheets.HEAD + sheets.RECORD + line for line in sheets.BAD.values()]
+    cases += [b"", b"\n", sheets.HEAD[:-1], sheets.HEAD + sheets.RECORD * 1597, sheets.HEAD + sheets.RECORD * 5001, b" " * 65537]
+    cases += [sheets.edited(rng, sheets.HEAD + sheets.RECORD) for _ in range(200)]
+    for text in cases:
+        what = "sheet %r" % text[:200]
+        number, line, wanted = ref.read_sheet(text)
+        for data in (text, bytearray(text), memoryview(text)):
+            found = outcome(h.sheet, data)
+            if number:
+                same(found, refused(number, line), what)
+            else:
+                same_run(found, wanted, what)
+            number_of_text, line_of_text, written = ref.sheet_text(text)
+            same(outcome(h.report_sheet, data), (written, number_of_text, line_of_text), "report_sheet, " + what)
+            same(h.report_sheet(data)._fields, ("text", "number", "line"), "report_sheet's fields")
+
+
+# ---- What is no argument
+
+# Values where a whole number of 64 bits is wanted, and what is said of them behind the argument's name.
+NOT_NUMBERS = [
+    (True, "a whole number is wanted, True given"),
+    (1.0, "a whole number is wanted, 1.0 given"),
+    (1.5, "a whole number is wanted, 1.5 given"),
+    ("1", "a whole number is wanted, '1' given"),
+    (b"1", "a whole number is wanted, b'1' given"),
+    (None, "a whole number is wanted, None given"),
+    ([1], "a whole number is wanted, [1] given"),
+    (2**64, "18446744073709551616 is not a 64-bit number"),
+    (2**64 + 1000, "18446744073709552616 is not a 64-bit number"),
+    (-1, "-1 is negative, and a number from 0 is wanted"),
+    (-2**63, "-9223372036854775808 is negative, and a number from 0 is wanted"),
+]
+NOT_TEMPERATURES = NOT_NUMBERS[:7] + [
+    (2**63, "9223372036854775808 is not a 64-bit number"),
+    (-2**63 - 1, "-9223372036854775809 is not a 64-bit number"),
+    (2**64 + 100, "18446744073709551716 is not a 64-bit number"),
+]
+
+
+class Index:
+    """A whole number of another type, as numpy's are."""
+
+    def __init__(self, value):
+        self.value = value
+
+    def __index__(self):
+        return self.value
+
+
+def wrong_arguments():
+    def error(name, said):
+        return "ValueError: %s: %s" % (name, said)
+
+    temps, shares, speeds = [100] * 12, (40, 40, 20), (20, 60, 100)
+    run = h.add(h.open_run(h.head(120, temps)), h.record(2, 1000, 10000, shares, speeds))
+    # heads
+    for make in (h.head, h.Head):
+        for count in (0, 1, 11, 13, 24):
+            same(outcome(make, 120, [100] * count), error("temps", "twelve temperatures are wanted, %d given" % count), "%d temperatures" % count)
+        for value in (100, "100", b"abcdefghijkl", None):
+            same(outcome(make, 120, value), error("temps", "twelve temperatures are wanted, %r given" % (value,)), "temperatures %r" % (value,))
+        for value, said in NOT_NUMBERS:
+            same(outcome(make, value, temps), error("trip", said), "trip %r" % (value,))
+        for value, said in NOT_TEMPERATURES:
+            for month in range(12):
+                same(outcome(make, 120, [*temps[:month], value, *temps[month + 1:]]), error("temps", said), "temperature %r" % (value,))
+    # records
+    for make in (h.record, h.Record):
+        for name, place in (("shares", 3), ("speeds", 4)):
+            for several in ((), (100,), (40, 60), (40, 40, 20, 0)):
+                values = [2, 1000, 10000, shares, speeds]
+                values[place] = several
+                same(outcome(make, *values), error(name, "three (urban, rural, highway) are wanted, %d given" % len(several)), "%s %s" % (name, several))
+            for value, said in NOT_NUMBERS:
+                for road in range(3):
+                    several = [40, 40, 20]
+                    several[road] = value
+                    values = [2, 1000, 10000, shares, speeds]
+                    values[place] = several
+                    same(outcome(make, *values), error(name, said), "%s %s" % (name, several))
+        for place, name in enumerate(("vehicle_class", "vehicles", "km")):
+            for value, said in NOT_NUMBERS:
+                values = [2, 1000, 10000, shares, speeds]
+                values[place] = value
+                same(outcome(make, *values), error(name, said), "%s %r" % (name, value))
+    same(h.record(Index(2), Index(1000), 10000, shares, speeds).numbers(), [2, 1000, 10000, 40, 40, 20, 20, 60, 100], "numbers of another type")
+    # a struct's field, later
+    for struct, name in ((h.head(120, temps), "trip"), (h.record(2, 1, 1, shares, speeds), "vehicles"), (h.Run(), "count")):
+        for value, said in NOT_NUMBERS:
+            same(outcome(setattr, struct, name, value), error(name, said), "%s set to %r" % (name, value))
+    head = h.head(120, temps)
+    for value, said in NOT_TEMPERATURES:
+        same(outcome(head.temps.__setitem__, 3, value), error("temps", said), "a temperature set to %r" % (value,))
+    same(list(head.temps), temps, "temperatures after refused changes")
+    # an array of ctypes, a tuple and a generator hold numbers as a list does
+    for made in (head.temps, tuple(temps), (t for t in temps)):
+        same(list(h.head(120, made).temps), temps, "temperatures from %s" % type(made).__name__)
+    other = h.Run()
+    other.x = run.x
+    same(list(other.x), list(run.x), "values X from another run")
+    row = (h.c_uint64 * 9)(2, 1000, 10000, *shares, *speeds)
+    same(words(h.add_list(head, row).run), words(run), "a list from an array")
+    same(outcome(h.Run().grams.__setitem__, 3, 2**64), error("grams", "18446744073709551616 is not a 64-bit number"), "grams set to 2^64")
+    # questions
+    asked = {"total": ("fuel", "quantity"), "kinds": ("fuel", "quantity"), "balance": ("fuel", "quantity", "sold"), "co2": ("fuel", "hydrogen"),
+             "so2": ("fuel", "sulphur"), "lead": ("fuel", "content"), "map_row": ("fuel", "quantity")}
+    for kind in ref.KINDS:
+        asked[kind] = asked["figure_" + kind] = ("fuel", "quantity")
+    for call, names in asked.items():
+        function = getattr(h, call)
+        for place, name in enumerate(names):
+            for value, said in NOT_NUMBERS:
+                values = [1] * len(names)
+                values[place] = value
+                same(outcome(function, run, *values), error(name, said), "%s with %s %r" % (call, name, value))
+        for value in (None, 5, bytes(1120), head):
+            same(outcome(function, value, *[1] * len(names)), error("run", "a Run is wanted, %r given" % (value,)), "%s of %r" % (call, value))
+    for place, name in ((0, "fuel"), (1, "quantity")):
+        for value, said in NOT_NUMBERS:
+            values = [1, 1, "cold"]
+            values[place] = value
+            same(outcome(h.figure, run, *values), error(name, said), "figure with %s %r" % (name, value))
+    for kind in ("", "hot", 3, None, "Urban"):
+        same(outcome(h.figure, run, 1, 1, kind), error("kind", "one of urban, rural, highway, cold is wanted, %r given" % (kind,)), "figure %r" % (kind,))
+    # the rest
+    part = h.record(2, 1, 1, shares, speeds)
+    for call, arguments, name, wanted in ((h.open_run, (run,), "a_head", "a Head"), (h.add, (head, part), "run", "a Run"), (h.add, (run, head), "a_record", "a Record"),
+                                          (h.add_list, (run, []), "a_head", "a Head"), (h.in_order, (head,), "run", "a Run"), (h.report, (head,), "run", "a Run")):
+        found = outcome(call, *arguments)
+        same(str(found).startswith("ValueError: %s: %s is wanted, <" % (name, wanted)), True, "%s with a wrong %s: %s" % (call.__name__, name, found))
+    for value, said in NOT_NUMBERS:
+        same(outcome(h.add_list, head, [2, value]), error("records", said), "add_list with %r" % (value,))
+    for value in (5, None, "222222222", b"222222222"):
+        same(outcome(h.add_list, head, value), error("records", "records are wanted, %r given" % (value,)), "add_list of %r" % (value,))
+    for call in (h.sheet, h.report_sheet):
+        for value in ("text", 5, None, [32] * 66):
+            same(outcome(call, value), error("text", "bytes are wanted, %s given" % type(value).__name__), "%s of %r" % (call.__name__, value))
+
+
+def whole_module():
+    """Every call of the header has its function, every number its text."""
+    with open(os.path.join(ROOT, "include", "haldurap.h"), encoding="utf-8") as file:
+        calls = sorted(set(re.findall(r"^HALDURAP_ANSWER \w+ haldurap_(\w+)\(", file.read(), re.M)))
+    same(len(calls), 22, "calls of the header")
+    names = {"open": "open_run"}
+    same([name for name in calls if not callable(getattr(h, names.get(name, name), None))], [], "calls without a function")
+    for number in range(1, 17):
+        for line in (None, 7):
+            error = h.Refused(number, line)
+            where = "" if line is None else " at line 7"
+            same(str(error), "refused with %d%s: %s" % (number, where, h.MEANINGS[number]), "text of Refused")
+            again = pickle.loads(pickle.dumps(error))
+            same((again.number, again.line, str(again)), (number, line, str(error)), "Refused, stored")
+    same(len(set(h.MEANINGS.values())), 16, "meanings")
+
+
+def main():
+    rng = random.Random(1997)
+    whole_module()
+    wrong_arguments()
+    runs(rng)
+    texts(rng)
+    print("%d compared, %d wrong" % (done, failed))
+    sys.exit(1 if failed else 0)
+
+
+if __name__ == "__main__":
+    main()
