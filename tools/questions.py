@@ -16,7 +16,7 @@ import random
 
 import reference as ref
 import vectors
-from vectors import COUNT, EXAMPLE, GRAMS, KM, MAX, MILD, PLACES, REST, TRIP
+from vectors import COUNT, EXAMPLE, GRAMS, KM, MAX, MILD, PLACES, REST, TRIP, X
 
 # R, s and l at their ends, the values that the specification prints, and beside them.
 HYDROGEN = (0, 1, 1800, 1999, 3999, 4000, 4001, MAX)
@@ -85,7 +85,8 @@ def fleet(c):
 
 def order(c):
     """16 before 11 before 15, each run out of order in another way."""
-    for field, index, value in ((TRIP, 0, 0), (TRIP, 0, 201), (COUNT, 0, 5001), (REST, 59, 10**9), (GRAMS, 3, 10**13), (KM, 2, MAX)):
+    for field, index, value in ((TRIP, 0, 0), (TRIP, 0, 201), (X, 15, 4900000001), (COUNT, 0, 5001), (REST, 59, 10**9), (GRAMS, 3, 10**13),
+                                (KM, 2, MAX)):
         c.open(120, MILD)
         c.add(EXAMPLE)
         c.set(field, index, value)

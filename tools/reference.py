@@ -1,6 +1,7 @@
 """The inventory in exact whole numbers, written from the customer's request alone: "COPERT II inventory core", its
-document 01, of which docs/SPECIFICATION.md says the same in our own words. Nothing here comes from the Rattle code.
-Lists of records, and the number and line beside a text, are from SPECIFICATION, "Lists of records" and "Report".
+document 01, and the jobs of its document 02 that have landed (1), of which docs/SPECIFICATION.md says the same in our own
+words. Nothing here comes from the Rattle code. Lists of records, and the number and line beside a text, are from
+SPECIFICATION, "Lists of records" and "Report".
 
 Each call is one function, and a refusal is its number in the table of refusals, 0 for none. The tally at the end has
 the exact, never rounded sums that SPECIFICATION, "Accuracy", measures against.
@@ -65,13 +66,17 @@ RATIOS = {
     (3, CO): (36600, 90), (3, NOX): (9800, 6), (3, VOC): (22400, 60), (3, FC): (14700, 9),
 }
 
+# The values X of a run in their order: one by fuel and quantity, and behind these fifteen that of CO of class 3.
+CLASS_3_CO = "CO of class 3"
+X_NAMES = [(f, q) for f in FUELS for q in QUANTITIES] + [CLASS_3_CO]
+
 
 class Run:
-    """L, X by (fuel, quantity), the count, kilometres by fuel, and grams and rests by (fuel, quantity, kind)."""
+    """L, X by X_NAMES, the count, kilometres by fuel, and grams and rests by (fuel, quantity, kind)."""
 
     def __init__(self):
         self.trip = 0
-        self.x = {(f, q): 0 for f in FUELS for q in QUANTITIES}
+        self.x = {name: 0 for name in X_NAMES}
         self.count = 0
         self.km = {f: 0 for f in FUELS}
         self.grams = {(f, q, k): 0 for f in FUELS for q in QUANTITIES for k in KINDS}
@@ -119,9 +124,18 @@ def cold_excess(fuel, quantity, t):
     return max(0, p - q * t - 10000)
 
 
-def unrounded_x(trip, temps, fuel, quantity):
-    """X before its rounding."""
-    return Fraction(sum(cold_share(trip, t) * cold_excess(fuel, quantity, t) for t in temps), 12000)
+def x_name(cls, quantity):
+    """Which X a class and a quantity use."""
+    return CLASS_3_CO if (cls, quantity) == (3, CO) else (FUEL[cls], quantity)
+
+
+def unrounded_x(head):
+    """The values X of a head before their rounding, by X_NAMES."""
+    trip, temps = head
+    sums = {(f, q): sum(cold_share(trip, t) * cold_excess(f, q, t) for t in temps) for f in FUELS for q in QUANTITIES}
+    x = {place: Fraction(s, 12000) for place, s in sums.items()}
+    x[CLASS_3_CO] = Fraction(sums[FUEL[3], CO] * 72, 1200000)
+    return x
 
 
 def cold_factor(e, x):
@@ -151,7 +165,7 @@ def open_run(head):
     run = Run()
     if number == 0:
         run.trip = trip
-        run.x = {(f, q): half_up(unrounded_x(trip, temps, f, q)) for f in FUELS for q in QUANTITIES}
+        run.x = {name: half_up(x) for name, x in unrounded_x(head).items()}
     return number, run
 
 
@@ -176,7 +190,7 @@ def add(run, record):
     fuel, k, new = FUEL[cls], vehicles * km, run.copy()
     for q in QUANTITIES:
         e = [hot_factor(cls, q, road, speeds[road]) for road in range(3)]
-        cold = 0 if cls == 5 else cold_factor(e[0], run.x[fuel, q])
+        cold = 0 if cls == 5 else cold_factor(e[0], run.x[x_name(cls, q)])
         parts = [k * shares[road] * e[road] for road in range(3)] + [k * cold * 100]
         for kind, part in zip(KINDS, parts):
             place = fuel, q, kind
@@ -378,17 +392,15 @@ def program_text(text):
 
 def tally(head, records):
     """Demand 3's tally on paper: count, kilometres by fuel, exact sums by (fuel, quantity)."""
-    trip, temps = head
     count, km, sums = 0, {f: 0 for f in FUELS}, {(f, q): Fraction(0) for f in FUELS for q in QUANTITIES}
-    x = {(f, q): unrounded_x(trip, temps, f, q) for f in FUELS for q in QUANTITIES}
-    gain = {}
+    x, gain = unrounded_x(head), {}
     for record in records:
         if record_number(record) != 0 or count >= 5000:
             continue
         cls, vehicles, km_each, shares, speeds = record
         fuel, k = FUEL[cls], vehicles * km_each
         if record not in gain:
-            gain[record] = [exact_grams(record, q, x[fuel, q]) for q in QUANTITIES]
+            gain[record] = [exact_grams(record, q, x[x_name(cls, q)]) for q in QUANTITIES]
         count += 1
         km[fuel] += k
         for q in QUANTITIES:

@@ -298,6 +298,36 @@ def below_half(c):
     c.say("fields")
 
 
+def class_3(c):
+    """CO of class 3 by its own X, beside class 2: under cold, warm and mixed heads, at the roundings of X, and X set by hand."""
+    def both(urban):
+        for cls in (3, 2):
+            c.add((cls, 1000000, 1000, (40, 40, 20), (urban, 60, 100)))
+            c.say("list")
+
+    # Q of gasoline CO is 0 from T 300 on: in no month, in some, in all. 72/100 of the rounded X would be one more at T -297 and
+    # one less at L 11, where X is exactly at a half; the speeds there are such that the cold factor shows it.
+    for trip, temps, urban in ((120, MILD, 20), (10, [-300] * 12, 130), (10, [-297] * 12, 76), (11, [-75] * 12, 129), (200, [299] * 12, 10),
+                               (120, [300] * 11 + [299], 20), (120, [-100] * 6 + [350] * 6, 20), (31, [-300] + [400] * 11, 97),
+                               (120, [300] * 12, 20), (10, [301] * 12, 20), (200, [400] * 12, 130)):
+        c.open(trip, temps)
+        both(urban)
+        c.say("fields")
+    # Only CO of class 3 changes with the last X.
+    for x in (0, 1, 383356799, 10**9, 4900000000):
+        c.open(120, MILD)
+        c.set(X, 15, x)
+        both(20)
+    # One X alone, or all but one: which class and quantity use it; an X of 10^9 makes the cold grams those of the whole distance.
+    for own, others in ((10**9, 0), (0, 10**9)):
+        for cls in range(1, 8):
+            c.open(120, MILD)
+            for i in range(16):
+                c.set(X, i, own if i == 15 else others)
+            c.add((cls, 1000, 10000, (100, 0, 0), (20, 60, 100)))
+            c.say("list")
+
+
 def order(c):
     """Each condition of `in order` at its limit and one step over, asked through every call."""
     def probe(field, index, values, after):
@@ -309,7 +339,7 @@ def order(c):
                 c.set(*extra)
             c.ask_all()
     probe(TRIP, 0, (0, 9, 10, 200, 201, MAX), ())
-    for i in (0, 7, 14):
+    for i in (0, 7, 14, 15):
         probe(X, i, (4900000000, 4900000001, MAX), ())
     probe(COUNT, 0, (0, 1, 4999, 5000, 5001, MAX), ())
     for i in (0, 1, 2):
@@ -429,7 +459,7 @@ def cases():
     """Every line of standard input."""
     c = Cases()
     for part in (example, grounds, head_limits, record_limits, several_wrong, questions, classes, warm, balances, rounding,
-                 below_half, order, full_runs, any_order, anything):
+                 below_half, class_3, order, full_runs, any_order, anything):
         part(c)
     return c.lines
 
@@ -472,7 +502,7 @@ class Answers:
         elif field == COUNT:
             run.count = value
         elif field == X:
-            run.x[ref.FUELS[index // 5], ref.QUANTITIES[index % 5]] = value
+            run.x[ref.X_NAMES[index]] = value
         elif field == KM:
             run.km[ref.FUELS[index]] = value
         else:

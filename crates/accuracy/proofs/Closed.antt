@@ -15,7 +15,7 @@ use Rattle.units.proofs.Tab.{tab-at}
 use Rattle.units.proofs.Tests.{and-right}
 use Rattle.inventory.specs.declared.Record.{Record}
 use Rattle.inventory.specs.declared.Run.{Run}
-use Rattle.inventory.specs.Limits.{RecordLimits}
+use Rattle.inventory.specs.Limits.{RecordLimits, XLimits}
 use Rattle.inventory.specs.Order.{inOrder, gramsIn, restIn, kmIn, sumAt}
 use Rattle.inventory.specs.Adding.{billionths, partAt, kmOf, slotAfter, gramsAfter, restAfter, kmAfter, runWith, addNumber, addRun}
 use Rattle.inventory.specs.Opening.{emptyRun}
@@ -52,7 +52,7 @@ closed trip xs l =
 pub record HeadLimits (trip : ℕ) (xs : List ℕ) : Type 0 where
   pub trip-low : 10 ≤ trip
   pub trip-high : trip ≤ 200
-  pub x-most : (i : ℕ) → i < 15 → getD xs i 0 ≤ 4900000000
+  pub x-most : XLimits xs
 
 pub empty-closed : (trip : ℕ) (xs : List ℕ) → emptyRun trip xs ≡ closed trip xs []
 unfolding emptyRun closed slotSum kmSum sumOf billionths

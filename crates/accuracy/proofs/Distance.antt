@@ -22,7 +22,7 @@ use Rattle.inventory.specs.Printed.{place, exactTotal, printedTotal}
 use Rattle.accuracy.specs.Reference.{exactDenominator, exactOf, Reference, hasRoom, accepts, empty, withRecord, fed, referenceFrom, referenceOf, acceptedFrom, accepted}
 use Rattle.accuracy.specs.Claim.{allowance}
 use Rattle.accuracy.proofs.Sums.{sumOf, Apart, Each, sum-apart}
-use Rattle.accuracy.proofs.OneRecord.{xOf, brings, exactIn, record-near}
+use Rattle.accuracy.proofs.OneRecord.{headX, billionth, perKm, brings, exactIn, record-near}
 use Rattle.accuracy.proofs.Closed.{slotSum, kmSum, closed, sum-closed}
 
 -- ---- the reference in closed form
@@ -81,8 +81,8 @@ module _ (head : Head) (recs : List Record) where
 
 -- ---- the distance
 
--- s billionths, rounded, from e over the denominator: half a gram is half of it, and 1.5 g per 10^7 km are 1.8 × 10^13 a kilometre
-near-by : (s e k : ℕ) → Apart (s * 120000000000) e (18000000000000 * k) → WithinDistance (halfUp s 1000000000) (over e exactDenominator) (allowance k)
+-- s billionths, rounded, from e over the denominator: half a gram is half of it
+near-by : (s e k : ℕ) → Apart (s * billionth) e (perKm * k) → WithinDistance (halfUp s 1000000000) (over e exactDenominator) (allowance k)
 unfolding allowance plus
 near-by s e k h =
     let a : 2 * (halfUp s 1000000000 * 1000000000) ≤ 2 * s + 1000000000 = half-up-high s 1000000000 in
@@ -106,10 +106,10 @@ total-closed trip xs l fuel quantity f q =
     rw (at 0 (lit< tt), at 1 (lit< tt), at 2 (lit< tt), at 3 (lit< tt)) (four-sums xs fuel quantity l)
 
 pub closed-near : (head : Head) (l : List Record) → Each RecordLimits l → (fuel quantity : ℕ) → fuel < 3 → quantity < 5
-    → WithinDistance (printedTotal (closed (head .trip) (xOf head) l) fuel quantity) (over (sumOf (exactIn head fuel quantity) l) exactDenominator) (allowance (kmSum l fuel))
+    → WithinDistance (printedTotal (closed (head .trip) (headX head) l) fuel quantity) (over (sumOf (exactIn head fuel quantity) l) exactDenominator) (allowance (kmSum l fuel))
 unfolding printedTotal kmSum
 closed-near head l good fuel quantity f q =
-    rw (total-closed (head .trip) (xOf head) l fuel quantity f q)
+    rw (total-closed (head .trip) (headX head) l fuel quantity f q)
     (near-by _ _ _
-    (sum-apart RecordLimits 120000000000 18000000000000 (brings (xOf head) fuel quantity) (exactIn head fuel quantity) (λ rec. kmOf rec fuel)
+    (sum-apart RecordLimits billionth perKm (brings (headX head) fuel quantity) (exactIn head fuel quantity) (λ rec. kmOf rec fuel)
     (record-near head fuel quantity q) l good))

@@ -5,4 +5,5 @@ pub mod Distance
 pub mod Order
 pub mod Conditions
 pub mod Whole
+pub mod ColdValues
 pub mod Numbers

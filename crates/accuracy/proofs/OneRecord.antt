@@ -1,6 +1,6 @@
 -- What is used of one record: its limits, what it brings to a sum, how much that is at most, and how far its four kinds are from its exact grams.
 -- Assumes nothing.
-use mathlib.Core.Path.{_≡_}
+use mathlib.Core.Path.{_≡_, _∙_}
 use mathlib.Core.Bool.{Bool, true, false, cond}
 use mathlib.Core.List.{List}
 use Prim.Native.Nat.{ℕ, _+_, _*_, _/_, _%_, _≤_, _<_}
@@ -9,31 +9,30 @@ use native.Mathlib.Omega.{arith}
 use borrow.Author.Tests.{eqb-true}
 use lib.Dec.{eqb, lit<}
 use lib.ListN.{getD}
-use Rattle.units.specs.Lists.{tab}
 use Rattle.units.specs.Grounds.{firstFit}
 use Rattle.units.specs.Rounding.{halfUp}
 use Rattle.units.proofs.Tab.{tab-at}
 use Rattle.units.proofs.Tests.{and-left}
-use Rattle.classes.specs.Classes.{fuelOf, hasCold}
+use Rattle.classes.specs.Classes.{fuelOf, hasCold, xCount, xPlace}
 use Rattle.factors.specs.Factors.{emissionFactor}
-use Rattle.classes.proofs.Classes.{fuel-below}
+use Rattle.classes.proofs.Classes.{x-below}
 use Rattle.factors.proofs.Factors.{factor-most}
-use Rattle.coldstart.specs.ColdStart.{coldSum, coldX, coldFactor}
-use Rattle.coldstart.proofs.ColdStart.{cold-high, cold-low}
+use Rattle.coldstart.specs.ColdStart.{xDenominator, coldX, coldValues, coldFactor}
+use Rattle.coldstart.proofs.ColdStart.{x-of-class, cold-high, cold-low}
 use Rattle.inventory.specs.declared.Head.{Head}
 use Rattle.inventory.specs.declared.Record.{Record}
 use Rattle.inventory.specs.Records.{recordGrounds, vehicleKm, speedOf}
-use Rattle.inventory.specs.Limits.{RecordLimits}
+use Rattle.inventory.specs.Limits.{RecordLimits, XLimits}
 use Rattle.inventory.specs.Adding.{hotPart, coldRate, coldPart, partOf, partAt, kmOf}
 use Rattle.inventory.specs.Printed.{place}
 use Rattle.inventory.proofs.Records.{record-limits}
 use Rattle.inventory.proofs.Adding.{part-most, km-of-most}
-use Rattle.accuracy.specs.Reference.{acceptable, accepts, exactHot, exactCold, exactOf}
+use Rattle.accuracy.specs.Reference.{acceptable, accepts, exactX, exactHot, exactCold, exactOf}
 use Rattle.accuracy.proofs.Sums.{Apart}
 
 -- the values X of a head
-abbrev pub xOf : Head → List ℕ
-xOf head = tab (coldX (head .trip) (head .temps)) 15
+abbrev pub headX : Head → List ℕ
+headX head = coldValues (head .trip) (head .temps)
 
 -- what a record brings to the four kinds of a fuel and a quantity, in billionths of a gram
 unfoldable pub brings : List ℕ → ℕ → ℕ → Record → ℕ
@@ -67,52 +66,58 @@ pub record BringsMost (xs : List ℕ) (rec : Record) : Type 0 where
   pub part : (j : ℕ) → j < 60 → partAt xs rec j ≤ 1000000000000000000000
   pub km : (fuel : ℕ) → kmOf rec fuel ≤ 1000000000
 
-pub brings-most : (xs : List ℕ) → ((i : ℕ) → i < 15 → getD xs i 0 ≤ 4900000000) → (rec : Record) → RecordLimits rec → BringsMost xs rec
+pub brings-most : (xs : List ℕ) → XLimits xs → (rec : Record) → RecordLimits rec → BringsMost xs rec
 brings-most xs high rec o = record { part = part-most xs rec o high; km = km-of-most rec o }
 
 -- ---- its four kinds are at most 1.5 g per 10^7 of its kilometres from its exact grams
 
+-- a billionth of a gram, and 1.5 g per 10^7 km for each kilometre, over the denominator of the exact sums
+abbrev pub billionth : ℕ
+billionth = 10000000 * xDenominator
+
+abbrev pub perKm : ℕ
+perKm = 1500000000 * xDenominator
+
 -- K times the rounded cold factor, and K × E × unrounded X; b says whether the class has a cold part
 cold-near : (b : Bool) (k e s : ℕ) → e ≤ 2000000000
-    → Apart (k * cond b (coldFactor e (halfUp s 12000)) 0 * 100 * 120000000000) (cond b (k * e * s) 0) (18000000000000 * k)
+    → Apart (k * cond b (coldFactor e (halfUp s xDenominator)) 0 * 100 * billionth) (cond b (k * e * s) 0) (perKm * k)
 cold-near true k e s h =
-    record { high = omega (arith, mul-le-mul-left k (cold-high e s h)); low = omega (arith, mul-le-mul-left k (cold-low e s h)) }
+    record { high = omega (arith, mul-le-mul-left k (cold-high e s xDenominator h)); low = omega (arith, mul-le-mul-left k (cold-low e s xDenominator h (lit< tt))) }
 cold-near false k e s h = omega arith
 
-x-of : (head : Head) (fuel quantity : ℕ) → fuel < 3 → quantity < 5
-    → getD (xOf head) (fuel * 5 + quantity) 0 ≡ halfUp (coldSum (head .trip) (head .temps) fuel quantity) 12000
-unfolding coldX
-x-of head fuel quantity f q =
-    let d : (fuel * 5 + quantity) / 5 ≡ fuel = omega arith in
-    let m : (fuel * 5 + quantity) % 5 ≡ quantity = omega arith in
-    rw (tab-at 0 (coldX (head .trip) (head .temps)) 15 (fuel * 5 + quantity) (omega arith), d, m)
+-- X of a class and a quantity is the unrounded one, rounded once
+pub x-rounded : (head : Head) (class quantity : ℕ) → quantity < 5
+    → getD (headX head) (xPlace class quantity) 0 ≡ halfUp (exactX head class quantity .numerator) xDenominator
+x-rounded head class quantity q =
+    tab-at 0 (coldX (head .trip) (head .temps)) xCount (xPlace class quantity) (x-below class quantity q)
+    ∙ x-of-class (head .trip) (head .temps) class quantity q
 
 abbrev four : List ℕ → Record → ℕ → ℕ
 four xs rec quantity = partOf xs rec quantity 0 + partOf xs rec quantity 1 + partOf xs rec quantity 2 + partOf xs rec quantity 3
 
 four-near : (head : Head) (rec : Record) → RecordLimits rec → (quantity : ℕ) → quantity < 5
-    → Apart (four (xOf head) rec quantity * 120000000000) (exactOf head rec quantity .numerator) (18000000000000 * vehicleKm rec)
+    → Apart (four (headX head) rec quantity * billionth) (exactOf head rec quantity .numerator) (perKm * vehicleKm rec)
 unfolding partOf hotPart coldPart coldRate exactOf exactHot exactCold
 four-near head rec o quantity q =
     let e : ℕ = emissionFactor (rec .class) quantity 0 (speedOf rec 0) in
-    rw (x-of head (fuelOf (rec .class)) quantity (fuel-below (rec .class)) q)
+    rw (x-rounded head (rec .class) quantity q)
     (omega (
       arith,
-      cold-near (hasCold (rec .class)) (vehicleKm rec) e (coldSum (head .trip) (head .temps) (fuelOf (rec .class)) quantity)
+      cold-near (hasCold (rec .class)) (vehicleKm rec) e (exactX head (rec .class) quantity .numerator)
           (factor-most (rec .class) quantity 0 (speedOf rec 0) (o .driven 0 (lit< tt)) q (lit< tt)),
     ))
 
 -- b says whether the fuel is the record's
-own-near : (b : Bool) (n0 n1 n2 n3 e k : ℕ) → Apart ((n0 + n1 + n2 + n3) * 120000000000) e (18000000000000 * k)
-    → Apart ((cond b n0 0 + cond b n1 0 + cond b n2 0 + cond b n3 0) * 120000000000) (cond b e 0) (18000000000000 * cond b k 0)
+own-near : (b : Bool) (n0 n1 n2 n3 e k : ℕ) → Apart ((n0 + n1 + n2 + n3) * billionth) e (perKm * k)
+    → Apart ((cond b n0 0 + cond b n1 0 + cond b n2 0 + cond b n3 0) * billionth) (cond b e 0) (perKm * cond b k 0)
 own-near true n0 n1 n2 n3 e k h = h
 own-near false n0 n1 n2 n3 e k h = omega arith
 
 pub record-near : (head : Head) (fuel quantity : ℕ) → quantity < 5 → (rec : Record) → RecordLimits rec
-    → Apart (brings (xOf head) fuel quantity rec * 120000000000) (exactIn head fuel quantity rec) (18000000000000 * kmOf rec fuel)
+    → Apart (brings (headX head) fuel quantity rec * billionth) (exactIn head fuel quantity rec) (perKm * kmOf rec fuel)
 unfolding brings exactIn kmOf
 record-near head fuel quantity q rec o =
-    let at : (kind : ℕ) → kind < 4 → partAt (xOf head) rec (place fuel quantity kind) ≡ cond (eqb fuel (fuelOf (rec .class))) (partOf (xOf head) rec quantity kind) 0 =
-    λ kind k. slot-part (xOf head) rec fuel quantity kind q k in
+    let at : (kind : ℕ) → kind < 4 → partAt (headX head) rec (place fuel quantity kind) ≡ cond (eqb fuel (fuelOf (rec .class))) (partOf (headX head) rec quantity kind) 0 =
+    λ kind k. slot-part (headX head) rec fuel quantity kind q k in
     rw (at 0 (lit< tt), at 1 (lit< tt), at 2 (lit< tt), at 3 (lit< tt))
     (own-near (eqb fuel (fuelOf (rec .class))) _ _ _ _ _ _ (four-near head rec o quantity q))

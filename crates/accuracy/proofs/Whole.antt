@@ -8,6 +8,7 @@ use Rattle.units.specs.Grounds.{firstFit}
 use Rattle.units.specs.Fractions.{WithinDistance}
 use Rattle.units.proofs.Tab.{tab-at}
 use Rattle.units.proofs.Tests.{inside}
+use Rattle.classes.specs.Classes.{xCount}
 use Rattle.coldstart.specs.ColdStart.{coldX, Climate}
 use Rattle.coldstart.proofs.ColdStart.{x-most}
 use Rattle.inventory.specs.declared.Head.{Head}
@@ -22,7 +23,7 @@ use Rattle.listing.specs.Report.{reportOf, reportBuffer}
 use Rattle.accuracy.specs.Reference.{hasRoom, accepts, accepted, referenceOf}
 use Rattle.accuracy.specs.Conditions.{recordNumber}
 use Rattle.accuracy.specs.Claim.{runAfter, allowance, ListClaim, SameAccepted, EveryList, AccuracyClaim}
-use Rattle.accuracy.proofs.OneRecord.{xOf}
+use Rattle.accuracy.proofs.OneRecord.{headX}
 use Rattle.accuracy.proofs.Closed.{closed, HeadLimits, km-closed, takes-accepted, accepted-good, run-closed, run-order}
 use Rattle.accuracy.proofs.Distance.{reference-count, reference-km, reference-exact, closed-near}
 use Rattle.accuracy.proofs.Order.{closed-same}
@@ -40,25 +41,25 @@ total-given run order fuel quantity f q =
 -- ---- every list under a head that opening took
 
 module _ (head : Head) (taken : openNumber head ≡ 0) where
-  limits : HeadLimits (head .trip) (xOf head)
+  limits : HeadLimits (head .trip) (headX head)
   limits =
       let c : Climate (head .trip) (head .temps) = climate head taken in
       record {
         trip-low = c .trip-low;
         trip-high = c .trip-high;
-        x-most = λ i b. rw (tab-at 0 (coldX (head .trip) (head .temps)) 15 i b) (x-most (head .trip) (head .temps) c i b);
+        x-most = λ i b. rw (tab-at 0 (coldX (head .trip) (head .temps)) xCount i b) (x-most (head .trip) (head .temps) c i b);
       }
 
-  opened : openRun head ≡ emptyRun (head .trip) (xOf head)
+  opened : openRun head ≡ emptyRun (head .trip) (headX head)
   unfolding openRun freshRun
   opened = rw taken
 
   -- the run after any list of adds
-  pub after : (recs : List Record) → runAfter (openRun head) recs ≡ closed (head .trip) (xOf head) (accepted recs)
-  after recs = rw opened (run-closed (head .trip) (xOf head) limits recs)
+  pub after : (recs : List Record) → runAfter (openRun head) recs ≡ closed (head .trip) (headX head) (accepted recs)
+  after recs = rw opened (run-closed (head .trip) (headX head) limits recs)
 
   ordered : (recs : List Record) → inOrder (runAfter (openRun head) recs) ≡ true
-  ordered recs = rw opened (run-order (head .trip) (xOf head) limits recs)
+  ordered recs = rw opened (run-order (head .trip) (headX head) limits recs)
 
   counted : (recs : List Record) → runAfter (openRun head) recs .count ≡ referenceOf head recs .count
   unfolding closed
@@ -81,12 +82,12 @@ module _ (head : Head) (taken : openNumber head ≡ 0) where
         reports = reports (runAfter (openRun head) recs) (ordered recs);
         balances = balances (runAfter (openRun head) recs) (ordered recs);
         count = counted recs;
-        km = λ fuel f. rw (after recs, reference-km head recs fuel) (km-closed (head .trip) (xOf head) (accepted recs) fuel f);
+        km = λ fuel f. rw (after recs, reference-km head recs fuel) (km-closed (head .trip) (headX head) (accepted recs) fuel f);
         near = near recs;
       }
 
   same-run : (recs others : List Record) → SameAccepted recs others → runAfter (openRun head) recs ≡ runAfter (openRun head) others
-  same-run recs others same = rw (after recs, after others) (closed-same (head .trip) (xOf head) (accepted recs) (accepted others) same)
+  same-run recs others same = rw (after recs, after others) (closed-same (head .trip) (headX head) (accepted recs) (accepted others) same)
 
   pub every-list : EveryList head
   every-list =

@@ -6,8 +6,8 @@ use mathlib.Core.List.{List, [], _∷_}
 use lib.Dec.{eqb, ltb}
 use Rattle.units.specs.Grounds.{firstFit}
 use Rattle.units.specs.Fractions.{Fraction, over, plus}
-use Rattle.classes.specs.Classes.{fuelOf, hasCold}
-use Rattle.coldstart.specs.ColdStart.{coldSum, coldDenominator}
+use Rattle.classes.specs.Classes.{fuelOf, hasCold, betaReduction}
+use Rattle.coldstart.specs.ColdStart.{coldSum, xDenominator}
 use Rattle.inventory.specs.declared.Head.{Head}
 use Rattle.inventory.specs.declared.Record.{Record}
 use Rattle.inventory.specs.Records.{recordGrounds, vehicleKm, shareOf}
@@ -30,13 +30,13 @@ accepts room rec = acceptable rec && room
 abbrev pub exactFactor : Record → ℕ → ℕ → ℕ
 exactFactor rec quantity road = factorOf rec quantity road
 
--- the sum of B × Q behind the unrounded X of a class and a quantity; its denominator is coldDenominator
-abbrev pub exactColdSum : Head → ℕ → ℕ → ℕ
-exactColdSum head class quantity = coldSum (head .trip) (head .temps) (fuelOf class) quantity
+-- the unrounded X of a class and a quantity: the sum of B × Q over 12,000, times 72/100 for CO of class 3
+abbrev pub exactX : Head → ℕ → ℕ → Fraction
+exactX head class quantity = over (coldSum (head .trip) (head .temps) (fuelOf class) quantity * betaReduction class quantity) xDenominator
 
 -- the denominator of the exact sums, 10^16 times that of X
 abbrev pub exactDenominator : ℕ
-exactDenominator = 10000000000000000 * coldDenominator
+exactDenominator = 10000000000000000 * xDenominator
 
 -- the hot grams of the three roads, times 1,000,000,000
 unfoldable pub exactHot : Record → ℕ → ℕ
@@ -48,7 +48,7 @@ exactHot rec quantity =
 -- K × E(urban speed) × unrounded X, times the denominator of X, if the class has a cold part
 unfoldable pub exactCold : Head → Record → ℕ → ℕ
 exactCold head rec quantity =
-    cond (hasCold (rec .class)) (vehicleKm rec * exactFactor rec quantity 0 * exactColdSum head (rec .class) quantity) 0
+    cond (hasCold (rec .class)) (vehicleKm rec * exactFactor rec quantity 0 * exactX head (rec .class) quantity .numerator) 0
 
 -- what a record brings to a quantity of its fuel: hot over 10^9 plus cold over 10^16
 unfoldable pub exactOf : Head → Record → ℕ → Fraction

@@ -2,9 +2,11 @@
 ghost use mathlib.Core.Path.{_≡_};
 ghost use mathlib.Core.Bool.{cond};
 ghost use Prim.Native.Nat.{_+_, _*_, _≤_, _<_};
-ghost use Rattle.classes.specs.Classes.{hasCold};
+ghost use lib.ListN.{getD};
+ghost use Rattle.classes.specs.Classes.{hasCold, xPlace};
 ghost use Rattle.coldstart.specs.ColdStart.{coldFactor};
 ghost use Rattle.inventory.specs.Adding.{billionths};
+ghost use Rattle.inventory.specs.Limits.{XLimits};
 use inventory::Amount;
 use units::Grams;
 use units::VehicleKm;
@@ -49,13 +51,14 @@ pub fn with_cold(g: Grams, r: u64, k: VehicleKm, f: u64) -> Amount
     carried(Grams(m), s)
 }
 
-// The cold factor of E and X, 0 for a class without a cold part.
-pub fn cold_rate(class: u64, e: u64, x: u64) -> u64
-    requires { ⌜ (e ≤ 2000000000) × (x ≤ 4900000000) ⌝ }
-    ensures { λ r. ⌜ r ≡ cond (hasCold class) (coldFactor e x) 0 ⌝ }
+// The cold factor of a class and a quantity from E and the values X, 0 for a class without a cold part.
+pub fn cold_rate(class: u64, quantity: usize, e: u64, x: &[u64; 16]) -> u64
+    requires { ⌜ (quantity < 5) × (e ≤ 2000000000) × XLimits (now x) ⌝ }
+    ensures { λ r. ⌜ r ≡ cond (hasCold class) (coldFactor e (getD (now (x .entry)) (xPlace class quantity) 0)) 0 ⌝ }
 {
     if classes::has_cold(class) {
-        return coldstart::cold_factor(e, x);
+        let at = classes::x_place(class, quantity);
+        return coldstart::cold_factor(e, x[at]);
     }
     0
 }

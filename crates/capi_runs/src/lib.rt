@@ -27,8 +27,8 @@ pub extern "C" fn haldurap_layout() -> Layout
     ensures { λ r. ⌜ r ≡ layoutOf ⌝ }
 {
     Layout {
-        version: 2,
-        size: 1120,
+        version: 3,
+        size: 1128,
     }
 }
 

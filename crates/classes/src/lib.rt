@@ -1,6 +1,7 @@
-// What a class is: its fuel, and whether it has a cold part.
+// What a class is: its fuel, whether it has a cold part, and where its values X stand in a run.
 ghost use mathlib.Core.Path.{_≡_};
-ghost use Rattle.classes.specs.Classes.{fuelOf, hasCold};
+ghost use Prim.Native.Nat.{_<_};
+ghost use Rattle.classes.specs.Classes.{fuelOf, hasCold, xPlace};
 
 // The fuel of a class: 0 gasoline, 1 diesel, 2 LPG.
 pub fn fuel_of(class: u64) -> usize
@@ -23,4 +24,17 @@ pub fn has_cold(class: u64) -> bool
         return false;
     }
     true
+}
+
+// The place of the X of a class and a quantity in a run.
+pub fn x_place(class: u64, quantity: usize) -> usize
+    requires { ⌜ quantity < 5 ⌝ }
+    ensures { λ r. ⌜ r ≡ xPlace class quantity ⌝ }
+{
+    if class == 3 {
+        if quantity == 0 {
+            return 15;
+        }
+    }
+    fuel_of(class) * 5 + quantity
 }

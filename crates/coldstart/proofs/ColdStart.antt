@@ -4,10 +4,10 @@ use mathlib.Core.Path.{_≡_, refl, sym, ap, _∙_, subst}
 use mathlib.Core.Bool.{Bool, true, false, cond, _&&_}
 use mathlib.Core.List.{List, []}
 use Prim.Native.Nat.{ℕ, zero, suc, _+_, _*_, _-_, _/_, _%_, _≤_, _<_}
-use native.Mathlib.Nat.{mul-le-mul-left, mul-le-mul}
+use native.Mathlib.Nat.{mul-le-mul-left, mul-le-mul-right, mul-le-mul}
 use native.Mathlib.Numerals.{add-one}
 use native.Mathlib.Omega.{arith}
-use borrow.Author.Tests.{ltb-true}
+use borrow.Author.Tests.{lt-ltb, ltb-true, ltb-false}
 use lib.Dec.{T, eqb, eqb→eq, ltb, leb, leb→le, le→leb, ltb→lt, lit<}
 use lib.IntN.{ℤ, pos, negsuc, negℤ, natAbs, subℕ, negℤ-negℤ, _+ℤ_, _-ℤ_, _*ℤ_}
 use lib.ListN.{getD}
@@ -21,7 +21,9 @@ use Rattle.units.proofs.Tab.{tab-at}
 use Rattle.units.proofs.Tests.{at, computed, and-left, and-right, T-true, true-T}
 use Rattle.units.proofs.Rounds as rounds
 use Rattle.units.proofs.Signed.{Step, arg}
-use Rattle.coldstart.specs.ColdStart.{temperatureOk, coldShare, Slope, slope, slopes, pairs, SlopeLimits, coldRatio, orZero, coldExcess, monthProduct, monthAt, coldSum, coldX, coldFactor, Climate, SmallSums, withMonth, xFrom}
+use Rattle.classes.specs.Classes.{fuelOf, hasOwnX, betaReduction, xCount, xPlace}
+use Rattle.classes.proofs.Classes.{fuel-below, fuel-3, own}
+use Rattle.coldstart.specs.ColdStart.{temperatureOk, coldShare, Slope, slope, slopes, pairs, SlopeLimits, coldRatio, orZero, coldExcess, monthProduct, monthAt, coldSum, coldX, coldFactor, Climate, SmallSums, withMonth, xDenominator, xFrom, coldValues, xOfSums}
 
 -- ---- differences of whole numbers
 
@@ -215,7 +217,7 @@ unfolding tab sumsTo entry sumTo withMonth monthProduct
 sums-more l ts k = rw add-one refl
 
 -- twelve months make X
-pub sums-x : (l : ℕ) (ts : List ℤ) → tab (xFrom (tab (sumsTo l ts 12) 15)) 15 ≡ tab (coldX l ts) 15
+pub sums-x : (l : ℕ) (ts : List ℤ) → tab (xOfSums (tab (sumsTo l ts 12) 15)) xCount ≡ coldValues l ts
 unfolding tab sumsTo entry xFrom coldX coldSum
 sums-x l ts = refl
 
@@ -223,31 +225,65 @@ pub sum-most : (l : ℕ) (ts : List ℤ) → Climate l ts → (f q : ℕ) → f 
 unfolding coldSum sumsTo entry
 sum-most l ts c f q hf hq = sums-most l ts c 12 (f * 5 + q) (omega arith) (omega arith)
 
+-- X of a fuel and a quantity, and X of CO of class 3
+pub x-fuels : (l : ℕ) (ts : List ℤ) (i : ℕ) → i < 15 → coldX l ts i ≡ halfUp (coldSum l ts (i / 5) (i % 5)) 12000
+unfolding coldX xFrom
+x-fuels l ts i h = rw (lt-ltb i 15 h)
+
+pub x-class-3 : (l : ℕ) (ts : List ℤ) → coldX l ts 15 ≡ halfUp (coldSum l ts 0 0 * 72) 1200000
+unfolding coldX xFrom betaReduction hasOwnX
+x-class-3 l ts = refl
+
 -- each X is at most 4,900,000,000
-pub x-most : (l : ℕ) (ts : List ℤ) → Climate l ts → (i : ℕ) → i < 15 → coldX l ts i ≤ 4900000000
-unfolding coldX halfUp
-x-most l ts c i h = omega (arith, sum-most l ts c (i / 5) (i % 5) (omega arith) (omega arith))
+pub x-most : (l : ℕ) (ts : List ℤ) → Climate l ts → (i : ℕ) → i < xCount → coldX l ts i ≤ 4900000000
+unfolding halfUp
+x-most l ts c i h = go (ltb i 15) refl
+  where
+    go : (b : Bool) → ltb i 15 ≡ b → coldX l ts i ≤ 4900000000
+    go true e =
+        let b : i < 15 = ltb-true i 15 e in
+        rw (x-fuels l ts i b) (omega (arith, sum-most l ts c (i / 5) (i % 5) (omega arith) (omega arith)))
+    go false e =
+        let last : i ≡ 15 = omega (arith, ltb-false i 15 e) in
+        rw (last, x-class-3 l ts) (omega (arith, sum-most l ts c 0 0 (omega arith) (omega arith)))
+
+-- X of a class and a quantity: the sum times the reduction factor, over 1,200,000, half up
+pub x-of-class : (l : ℕ) (ts : List ℤ) (class quantity : ℕ) → quantity < 5
+    → coldX l ts (xPlace class quantity) ≡ halfUp (coldSum l ts (fuelOf class) quantity * betaReduction class quantity) xDenominator
+unfolding xPlace betaReduction halfUp
+x-of-class l ts class quantity h = go (hasOwnX class quantity) refl
+  where
+    go : (b : Bool) → hasOwnX class quantity ≡ b
+        → coldX l ts (cond b 15 (fuelOf class * 5 + quantity)) ≡ halfUp (coldSum l ts (fuelOf class) quantity * cond b 72 100) xDenominator
+    go true e = let p = own class quantity e in rw (p .0, p .1, fuel-3) (x-class-3 l ts)
+    go false e =
+        let f = fuel-below class in
+        let d : (fuelOf class * 5 + quantity) / 5 ≡ fuelOf class = omega arith in
+        let m : (fuelOf class * 5 + quantity) % 5 ≡ quantity = omega arith in
+        rw (x-fuels l ts (fuelOf class * 5 + quantity) (omega arith), d, m) (omega arith)
 
 pub cold-factor-most : (e x : ℕ) → e ≤ 2000000000 → x ≤ 4900000000 → coldFactor e x ≤ 9800000000
 unfolding coldFactor halfUp
 cold-factor-most e x he hx = omega (arith, rounds.mul-most e x 2000000000 4900000000 he hx)
 
--- the rounded cold factor against the exact one, per kilometre in units of 1 / (12,000 × 10^16) g: at most 1.8 × 10^13 apart
-module _ (e s : ℕ) (small : e ≤ 2000000000) where
-  pub cold-high : coldFactor e (halfUp s 12000) * 12000000000000 ≤ e * s + 18000000000000
+-- the cold factor of a rounded X = s / d against the exact one, per kilometre in units of 1 / (d × 10^16) g: at most 1.5 × 10^9 d apart
+module _ (e s d : ℕ) (small : e ≤ 2000000000) where
+  pub cold-high : coldFactor e (halfUp s d) * (1000000000 * d) ≤ e * s + 1500000000 * d
   unfolding coldFactor
   cold-high =
-      let x : ℕ = halfUp s 12000 in
-      let a : 2 * (halfUp (e * x) 1000000000 * 1000000000) ≤ 2 * (e * x) + 1000000000 = rounds.half-up-high (e * x) 1000000000 in
-      let b : e * (2 * (x * 12000)) ≤ e * (2 * s + 12000) = mul-le-mul-left e (rounds.half-up-high s 12000) in
+      let x : ℕ = halfUp s d in
+      let a : (2 * (halfUp (e * x) 1000000000 * 1000000000)) * d ≤ (2 * (e * x) + 1000000000) * d = mul-le-mul-right d (rounds.half-up-high (e * x) 1000000000) in
+      let b : e * (2 * (x * d)) ≤ e * (2 * s + d) = mul-le-mul-left e (rounds.half-up-high s d) in
+      let m : e * d ≤ 2000000000 * d = mul-le-mul-right d small in
       omega arith
 
-  pub cold-low : e * s ≤ coldFactor e (halfUp s 12000) * 12000000000000 + 18000000000000
+  pub cold-low : 0 < d → e * s ≤ coldFactor e (halfUp s d) * (1000000000 * d) + 1500000000 * d
   unfolding coldFactor
-  cold-low =
-      let x : ℕ = halfUp s 12000 in
-      let a : 2 * (e * x) ≤ 2 * (halfUp (e * x) 1000000000 * 1000000000) + 1000000000 = rounds.half-up-low (e * x) 1000000000 (lit< tt) in
-      let b : e * (2 * s) ≤ e * (2 * (x * 12000) + 12000) = mul-le-mul-left e (rounds.half-up-low s 12000 (lit< tt)) in
+  cold-low positive =
+      let x : ℕ = halfUp s d in
+      let a : (2 * (e * x)) * d ≤ (2 * (halfUp (e * x) 1000000000 * 1000000000) + 1000000000) * d = mul-le-mul-right d (rounds.half-up-low (e * x) 1000000000 (lit< tt)) in
+      let b : e * (2 * s) ≤ e * (2 * (x * d) + d) = mul-le-mul-left e (rounds.half-up-low s d positive) in
+      let m : e * d ≤ 2000000000 * d = mul-le-mul-right d small in
       omega arith
 
 -- ---- a head that opening takes

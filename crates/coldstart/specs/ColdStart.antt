@@ -1,14 +1,16 @@
 -- Cold starts (SPECIFICATION, "Cold starts").
 -- Assumes nothing.
 use Prim.Native.Nat.{ℕ, _+_, _*_, _/_, _%_, _≤_, _<_}
-use mathlib.Core.Bool.{Bool, true, _&&_}
+use mathlib.Core.Bool.{Bool, true, cond, _&&_}
 use mathlib.Core.Path.{_≡_}
 use mathlib.Core.List.{List, [], _∷_}
 use lib.IntN.{ℤ, pos, negsuc, negℤ, natAbs, _-ℤ_, _*ℤ_}
+use lib.Dec.{ltb}
 use lib.ListN.{getD}
 use lib.Signed.{leZ}
-use Rattle.units.specs.Lists.{sumTo}
+use Rattle.units.specs.Lists.{tab, sumTo}
 use Rattle.units.specs.Rounding.{halfUp}
+use Rattle.classes.specs.Classes.{betaReduction, xCount}
 
 -- l is the mean trip length L in tenths of km, t a monthly mean temperature T in tenths of a degree;
 -- a fuel is 0 gasoline, 1 diesel, 2 LPG, a quantity 0 CO, 1 NOX, 2 VOC, 3 PM, 4 FC
@@ -81,9 +83,23 @@ coldSum l ts fuel quantity = sumTo (monthAt l (slopeOf fuel quantity) ts) 12
 abbrev pub coldDenominator : ℕ
 coldDenominator = 12000
 
--- X of the entry i = fuel × 5 + quantity
+-- the denominator of X with a reduction factor in hundredths: 1,200,000
+abbrev pub xDenominator : ℕ
+xDenominator = coldDenominator * 100
+
+-- X at the place i of a run, from the sums by fuel × 5 + quantity: a sum over 12,000, half up;
+-- behind the fifteen CO of class 3, the sum of gasoline CO times 72, over 1,200,000, half up
+unfoldable pub xFrom : (ℕ → ℕ) → ℕ → ℕ
+xFrom sum i =
+    cond (ltb i 15) (halfUp (sum i) coldDenominator) (halfUp (sum 0 * betaReduction 3 0) xDenominator)
+
+-- X of a head at the place i
 unfoldable pub coldX : ℕ → List ℤ → ℕ → ℕ
-coldX l ts i = halfUp (coldSum l ts (i / 5) (i % 5)) coldDenominator
+coldX l ts i = xFrom (λ j. coldSum l ts (j / 5) (j % 5)) i
+
+-- the values X of a head, as a run holds them
+abbrev pub coldValues : ℕ → List ℤ → List ℕ
+coldValues l ts = tab (coldX l ts) xCount
 
 -- cold factor = E × X / 1,000,000,000, half up
 unfoldable pub coldFactor : ℕ → ℕ → ℕ
@@ -105,6 +121,6 @@ pub record SmallSums (sums : List ℕ) : Type 0 where
 unfoldable pub withMonth : List ℕ → ℕ → ℤ → ℕ → ℕ
 withMonth sums b t i = getD sums i 0 + b * coldExcess (getD slopes i (slope 0 0)) t
 
--- X of the entry i from the sums over twelve months
-unfoldable pub xFrom : List ℕ → ℕ → ℕ
-xFrom sums i = halfUp (getD sums i 0) coldDenominator
+-- X at the place i from the code's sums over twelve months
+abbrev pub xOfSums : List ℕ → ℕ → ℕ
+xOfSums sums i = xFrom (λ j. getD sums j 0) i

@@ -4,7 +4,8 @@ ghost use mathlib.Core.Bool.{true};
 ghost use Prim.Native.Nat.{_≤_};
 ghost use lib.IntN.{natAbs};
 ghost use Rattle.units.specs.Lists.{tab};
-ghost use Rattle.coldstart.specs.ColdStart.{Climate, coldExcess, coldFactor, coldShare, coldX, SlopeLimits, SmallSums, pairs, slope, slopes, temperatureOk, withMonth, xFrom};
+ghost use Rattle.classes.specs.Classes.{xCount};
+ghost use Rattle.coldstart.specs.ColdStart.{Climate, coldExcess, coldFactor, coldShare, coldValues, SlopeLimits, SmallSums, pairs, slope, slopes, temperatureOk, withMonth, xOfSums};
 ghost use Rattle.coldstart.specs.Claim.{ShareClaim};
 
 // Whether a temperature is from -300 to 400 tenths of a degree.
@@ -73,22 +74,23 @@ fn with_month(table: &[[u64; 2]; 15], sums: [u64; 15], b: u64, t: i64) -> [u64; 
     r
 }
 
-// The 15 values X of the sums over twelve months, half up.
-fn rounded(sums: [u64; 15]) -> [u64; 15]
+// The 16 values X of the sums over twelve months, half up; the last is that of CO of class 3.
+fn rounded(sums: [u64; 15]) -> [u64; 16]
     requires { ⌜ SmallSums sums ⌝ }
-    ensures { λ r. ⌜ r ≡ tab (xFrom sums) 15 ⌝ }
+    ensures { λ r. ⌜ r ≡ tab (xOfSums sums) xCount ⌝ }
 {
-    let mut x = [0u64; 15];
+    let mut x = [0u64; 16];
     for i in 0..15 {
         x[i] = (sums[i] + 6000) / 12000;
     }
+    x[15] = (sums[0] * 72 + 600000) / 1200000;
     x
 }
 
-// The 15 values X from the table: months outside, so that the share is computed once for each.
-fn values_of(table: &[[u64; 2]; 15], l: u64, temps: &[i64; 12]) -> [u64; 15]
+// The 16 values X from the table: months outside, so that the share is computed once for each.
+fn values_of(table: &[[u64; 2]; 15], l: u64, temps: &[i64; 12]) -> [u64; 16]
     requires { ⌜ (now table ≡ pairs slopes) × Climate l (now temps) ⌝ }
-    ensures { λ r. ⌜ r ≡ tab (coldX l (now (temps .entry))) 15 ⌝ }
+    ensures { λ r. ⌜ r ≡ coldValues l (now (temps .entry)) ⌝ }
 {
     let mut sums = [0u64; 15];
     for k in 0..12 {
@@ -100,10 +102,10 @@ fn values_of(table: &[[u64; 2]; 15], l: u64, temps: &[i64; 12]) -> [u64; 15]
     rounded(sums)
 }
 
-// The 15 values X of a head: for each fuel CO, NOX, VOC, PM, FC.
-pub fn cold_values(l: u64, temps: &[i64; 12]) -> [u64; 15]
+// The 16 values X of a head: for each fuel CO, NOX, VOC, PM, FC, then CO of class 3.
+pub fn cold_values(l: u64, temps: &[i64; 12]) -> [u64; 16]
     requires { ⌜ Climate l (now temps) ⌝ }
-    ensures { λ r. ⌜ r ≡ tab (coldX l (now (temps .entry))) 15 ⌝ }
+    ensures { λ r. ⌜ r ≡ coldValues l (now (temps .entry)) ⌝ }
 {
     values_of(&SLOPES, l, temps)
 }

@@ -14,7 +14,8 @@ use Rattle.units.proofs.Tab.{tab-at}
 use Rattle.units.proofs.Tests.{inside, inside-high, all}
 use Rattle.fields.proofs.RoundTrip.{taken, taken-minus, length-minus}
 use Rattle.text.proofs.Write.{length-render}
-use Rattle.coldstart.specs.ColdStart.{temperatureOk, Slope, slopeOf, monthProduct, monthAt, coldSum, coldX, Climate}
+use Rattle.classes.specs.Classes.{xCount}
+use Rattle.coldstart.specs.ColdStart.{temperatureOk, Slope, slopeOf, monthProduct, monthAt, coldSum, xFrom, coldX, Climate}
 use Rattle.coldstart.proofs.ColdStart.{temperature-size}
 use Rattle.inventory.specs.declared.Head.{Head}
 use Rattle.inventory.specs.declared.Record.{Record}
@@ -227,19 +228,22 @@ module _ (head : Head) (z : openNumber head ≡ 0) where
       (good-head twelve (inside 10 200 (head .trip) (c .trip-low) (c .trip-high))
       (all (monthOk twelve) 12 (λ k h. ap temperatureOk (same-month k h) ∙ c .temperatures k h))))
 
-  same-x : (i : ℕ) → i < 15 → coldX (head .trip) (tab (temperatureIn head) 12) i ≡ coldX (head .trip) (head .temps) i
-  unfolding coldX coldSum
-  same-x i b =
-      let s : Slope = slopeOf (i / 5) (i % 5) in
-      rw
-      (sum-alike (monthAt (head .trip) s (tab (temperatureIn head) 12)) (monthAt (head .trip) s (head .temps)) 12
-      (λ k h. ap (λ (t : ℤ). monthProduct (head .trip) s t) (same-month k h)))
+  same-sum : (fuel quantity : ℕ) → coldSum (head .trip) (tab (temperatureIn head) 12) fuel quantity ≡ coldSum (head .trip) (head .temps) fuel quantity
+  unfolding coldSum
+  same-sum fuel quantity =
+      let s : Slope = slopeOf fuel quantity in
+      sum-alike (monthAt (head .trip) s (tab (temperatureIn head) 12)) (monthAt (head .trip) s (head .temps)) 12
+      (λ k h. ap (λ (t : ℤ). monthProduct (head .trip) s t) (same-month k h))
+
+  same-x : (i : ℕ) → i < xCount → coldX (head .trip) (tab (temperatureIn head) 12) i ≡ coldX (head .trip) (head .temps) i
+  unfolding coldX xFrom
+  same-x i b = rw (same-sum 0 0, same-sum (i / 5) (i % 5))
 
   same-run : openRun twelve ≡ openRun head
   unfolding twelve freshRun
   same-run =
       sym (run-opened twelve same-number)
-      ∙ ap (emptyRun (head .trip)) (tab-alike (coldX (head .trip) (tab (temperatureIn head) 12)) (coldX (head .trip) (head .temps)) 15 same-x)
+      ∙ ap (emptyRun (head .trip)) (tab-alike (coldX (head .trip) (tab (temperatureIn head) 12)) (coldX (head .trip) (head .temps)) xCount same-x)
       ∙ run-opened head z
 
 -- ---- a sheet

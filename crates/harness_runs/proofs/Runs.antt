@@ -38,7 +38,7 @@ module _ (run : Run) (field k value : ℕ) where
 
   -- no such number
 
-  pub no-x : field ≡ 1 → length (run .x) ≡ 15 → 15 ≤ k → run ≡ setField run field k value
+  pub no-x : field ≡ 1 → length (run .x) ≡ 16 → 16 ≤ k → run ≡ setField run field k value
   unfolding setField
   no-x e n h = rw (e, set-out (run .x) k value (omega arith))
 
@@ -65,27 +65,27 @@ module _ (run : Run) (i : ℕ) where
   unfolding fieldAt
   at-trip h = rw (lt-ltb i 1 h)
 
-  pub at-x : 1 ≤ i → i < 16 → getD (run .x) (i - 1) 0 ≡ fieldAt run i
+  pub at-x : 1 ≤ i → i < 17 → getD (run .x) (i - 1) 0 ≡ fieldAt run i
   unfolding fieldAt
-  at-x l h = rw (le-ltb i 1 l, lt-ltb i 16 h)
+  at-x l h = rw (le-ltb i 1 l, lt-ltb i 17 h)
 
-  pub at-count : 16 ≤ i → i < 17 → run .count ≡ fieldAt run i
+  pub at-count : 17 ≤ i → i < 18 → run .count ≡ fieldAt run i
   unfolding fieldAt
-  at-count l h = rw (le-ltb i 1 (omega arith), le-ltb i 16 l, lt-ltb i 17 h)
+  at-count l h = rw (le-ltb i 1 (omega arith), le-ltb i 17 l, lt-ltb i 18 h)
 
-  pub at-km : 17 ≤ i → i < 20 → kmIn run (i - 17) ≡ fieldAt run i
+  pub at-km : 18 ≤ i → i < 21 → kmIn run (i - 18) ≡ fieldAt run i
   unfolding fieldAt
-  at-km l h = rw (le-ltb i 1 (omega arith), le-ltb i 16 (omega arith), le-ltb i 17 l, lt-ltb i 20 h)
+  at-km l h = rw (le-ltb i 1 (omega arith), le-ltb i 17 (omega arith), le-ltb i 18 l, lt-ltb i 21 h)
 
-  module _ (l : 20 ≤ i) where
-    pub at-none : 140 ≤ i → 0 ≡ fieldAt run i
+  module _ (l : 21 ≤ i) where
+    pub at-none : 141 ≤ i → 0 ≡ fieldAt run i
     unfolding fieldAt
-    at-none h = rw (le-ltb i 1 (omega arith), le-ltb i 16 (omega arith), le-ltb i 17 (omega arith), le-ltb i 20 l, le-ltb i 140 h)
+    at-none h = rw (le-ltb i 1 (omega arith), le-ltb i 17 (omega arith), le-ltb i 18 (omega arith), le-ltb i 21 l, le-ltb i 141 h)
 
-    pub at-grams : i < 140 → i % 2 ≡ 0 → gramsIn run ((i - 20) / 2) ≡ fieldAt run i
+    pub at-grams : i < 141 → i % 2 ≡ 1 → gramsIn run ((i - 21) / 2) ≡ fieldAt run i
     unfolding fieldAt
-    at-grams h e = rw (le-ltb i 1 (omega arith), le-ltb i 16 (omega arith), le-ltb i 17 (omega arith), le-ltb i 20 l, lt-ltb i 140 h, eq-eqb (i % 2) 0 e)
+    at-grams h e = rw (le-ltb i 1 (omega arith), le-ltb i 17 (omega arith), le-ltb i 18 (omega arith), le-ltb i 21 l, lt-ltb i 141 h, eq-eqb (i % 2) 1 e)
 
-    pub at-rest : i < 140 → (i % 2 ≡ 0 → ⊥) → restIn run ((i - 20) / 2) ≡ fieldAt run i
+    pub at-rest : i < 141 → (i % 2 ≡ 1 → ⊥) → restIn run ((i - 21) / 2) ≡ fieldAt run i
     unfolding fieldAt
-    at-rest h n = rw (le-ltb i 1 (omega arith), le-ltb i 16 (omega arith), le-ltb i 17 (omega arith), le-ltb i 20 l, lt-ltb i 140 h, ne-eqb (i % 2) 0 n)
+    at-rest h n = rw (le-ltb i 1 (omega arith), le-ltb i 17 (omega arith), le-ltb i 18 (omega arith), le-ltb i 21 l, lt-ltb i 141 h, ne-eqb (i % 2) 1 n)

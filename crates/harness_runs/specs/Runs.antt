@@ -19,11 +19,11 @@ setField run field k value =
       rests = cond (eqb field 5) (set (run .rests) k value) (run .rests);
     }
 
--- number i of a run's 140: trip length, 15 X, count, 3 kilometres, then grams and rest of each sum; 0 behind the last
+-- number i of a run's 141: trip length, 16 X, count, 3 kilometres, then grams and rest of each sum; 0 behind the last
 unfoldable pub fieldAt : Run → ℕ → ℕ
 fieldAt run i =
     cond (ltb i 1) (run .trip)
-    (cond (ltb i 16) (getD (run .x) (i - 1) 0)
-    (cond (ltb i 17) (run .count)
-    (cond (ltb i 20) (kmIn run (i - 17))
-    (cond (ltb i 140) (cond (eqb (i % 2) 0) (gramsIn run ((i - 20) / 2)) (restIn run ((i - 20) / 2))) 0))))
+    (cond (ltb i 17) (getD (run .x) (i - 1) 0)
+    (cond (ltb i 18) (run .count)
+    (cond (ltb i 21) (kmIn run (i - 18))
+    (cond (ltb i 141) (cond (eqb (i % 2) 1) (gramsIn run ((i - 21) / 2)) (restIn run ((i - 21) / 2))) 0))))

@@ -50,7 +50,7 @@ pub fn set_field(mut run: Run, field: u64, k: u64, value: u64) -> Run
     if field == 0 {
         run.trip = value;
     } else if field == 1 {
-        if k < 15 {
+        if k < 16 {
             run.x[k as usize] = value;
         }
     } else if field == 2 {
@@ -71,29 +71,29 @@ pub fn set_field(mut run: Run, field: u64, k: u64, value: u64) -> Run
     run
 }
 
-// Number i of a run's 140.
+// Number i of a run's 141.
 pub fn field_at(run: Run, i: usize) -> u64
     ensures { λ r. ⌜ r ≡ fieldAt run i ⌝ }
 {
     if i < 1 {
         return run.trip;
     }
-    if i < 16 {
+    if i < 17 {
         return run.x[i - 1];
     }
-    if i < 17 {
+    if i < 18 {
         return run.count;
     }
-    if i < 20 {
-        let m = run.km[i - 17];
+    if i < 21 {
+        let m = run.km[i - 18];
         return m.0;
     }
-    if 140 <= i {
+    if 141 <= i {
         return 0;
     }
-    if i % 2 == 0 {
-        let g = run.grams[(i - 20) / 2];
+    if i % 2 == 1 {
+        let g = run.grams[(i - 21) / 2];
         return g.0;
     }
-    run.rests[(i - 20) / 2]
+    run.rests[(i - 21) / 2]
 }

@@ -11,9 +11,9 @@ use borrow.Author.Tests.{lt-ltb, le-ltb, lt-leb, le-leb, eq-eqb, ne-eqb, ltb-tru
 use Rattle.units.specs.declared.Grams.{Grams}
 use Rattle.units.specs.Grounds.{Ground, ground, firstFit}
 use Rattle.units.proofs.Grounds.{fit-append}
-use Rattle.classes.specs.Classes.{fuelOf, hasCold}
+use Rattle.classes.specs.Classes.{fuelOf, hasCold, xPlace}
 use Rattle.factors.specs.Factors.{emissionFactor, Driven}
-use Rattle.classes.proofs.Classes.{fuel-below}
+use Rattle.classes.proofs.Classes.{x-below}
 use Rattle.factors.proofs.Factors.{factor-most}
 use Rattle.coldstart.specs.ColdStart.{coldFactor}
 use Rattle.coldstart.proofs.ColdStart.{cold-factor-most}
@@ -21,8 +21,8 @@ use Rattle.inventory.specs.declared.Record.{Record}
 use Rattle.inventory.specs.declared.Run.{Run}
 use Rattle.inventory.specs.Records.{recordGrounds, vehicleKm, shareOf, speedOf}
 use Rattle.inventory.specs.Order.{inOrder, gramsIn, restIn, sumAt, recordLimit}
-use Rattle.inventory.specs.Limits.{RecordLimits, RunLimits}
-use Rattle.inventory.specs.Adding.{billionths, factorOf, hotPart, xPlace, coldRate, coldPart, partOf, partAt, slotAfter, kmOf, addGrounds, addNumber}
+use Rattle.inventory.specs.Limits.{RecordLimits, XLimits, RunLimits}
+use Rattle.inventory.specs.Adding.{billionths, factorOf, hotPart, coldRate, coldPart, partOf, partAt, slotAfter, kmOf, addGrounds, addNumber}
 
 -- ---- the number of an add
 
@@ -48,9 +48,6 @@ add-taken run rec o =
 
 -- ---- how much a record brings
 
-pub x-place : (class quantity : ℕ) → quantity < 5 → xPlace class quantity < 15
-x-place class quantity h = omega (arith, fuel-below class)
-
 cond-most : (b : Bool) (n m : ℕ) → n ≤ m → cond b n 0 ≤ m
 cond-most true n m h = h
 cond-most false n m h = omega arith
@@ -67,12 +64,12 @@ module _ (rec : Record) (lim : RecordLimits rec) where
   unfolding kmOf
   km-of-most fuel = cond-most (eqb fuel (fuelOf (rec .class))) (vehicleKm rec) 1000000000 (lim .distance)
 
-  module _ (xs : List ℕ) (high : (i : ℕ) → i < 15 → getD xs i 0 ≤ 4900000000) where
+  module _ (xs : List ℕ) (high : XLimits xs) where
     pub rate-most : (quantity : ℕ) → quantity < 5 → coldRate xs rec quantity ≤ 9800000000
     unfolding coldRate
     rate-most quantity h =
         cond-most (hasCold (rec .class)) (coldFactor (factorOf rec quantity 0) (getD xs (xPlace (rec .class) quantity) 0)) 9800000000
-        (cold-factor-most _ _ (factor-high quantity 0 h (omega arith)) (high _ (x-place (rec .class) quantity h)))
+        (cold-factor-most _ _ (factor-high quantity 0 h (omega arith)) (high _ (x-below (rec .class) quantity h)))
 
     cold-most : (quantity : ℕ) → quantity < 5 → coldPart xs rec quantity ≤ 1000000000000000000000
     unfolding coldPart
@@ -84,7 +81,7 @@ module _ (rec : Record) (lim : RecordLimits rec) where
     part-by quantity kind false e h = rw e (cold-most quantity h)
 
 -- one record brings at most 10^12 g to a sum
-pub part-most : (xs : List ℕ) (rec : Record) → RecordLimits rec → ((i : ℕ) → i < 15 → getD xs i 0 ≤ 4900000000) → (j : ℕ) → j < 60
+pub part-most : (xs : List ℕ) (rec : Record) → RecordLimits rec → XLimits xs → (j : ℕ) → j < 60
     → partAt xs rec j ≤ 1000000000000000000000
 unfolding partAt
 part-most xs rec lim high j h =

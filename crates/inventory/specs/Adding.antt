@@ -9,7 +9,7 @@ use Rattle.units.specs.declared.Grams.{Grams}
 use Rattle.units.specs.declared.VehicleKm.{VehicleKm}
 use Rattle.units.specs.Lists.{tab}
 use Rattle.units.specs.Grounds.{Ground, ground, firstFit}
-use Rattle.classes.specs.Classes.{fuelOf, hasCold}
+use Rattle.classes.specs.Classes.{fuelOf, hasCold, xPlace}
 use Rattle.factors.specs.Factors.{emissionFactor}
 use Rattle.coldstart.specs.ColdStart.{coldFactor}
 use Rattle.inventory.specs.declared.Record.{Record}
@@ -29,10 +29,6 @@ factorOf rec quantity road = emissionFactor (rec .class) quantity road (speedOf 
 -- hot grams of one road, K × share × E / 1,000,000,000, in billionths
 unfoldable pub hotPart : Record → ℕ → ℕ → ℕ
 hotPart rec quantity road = vehicleKm rec * shareOf rec road * factorOf rec quantity road
-
--- the place of X for a class and a quantity
-abbrev pub xPlace : ℕ → ℕ → ℕ
-xPlace class quantity = fuelOf class * 5 + quantity
 
 -- the cold factor of a record at its urban speed, 0 for a class without a cold part; xs are the values X
 unfoldable pub coldRate : List ℕ → Record → ℕ → ℕ

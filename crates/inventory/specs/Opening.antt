@@ -7,7 +7,8 @@ use Rattle.units.specs.declared.Grams.{Grams}
 use Rattle.units.specs.declared.VehicleKm.{VehicleKm}
 use Rattle.units.specs.Lists.{tab}
 use Rattle.units.specs.Grounds.{firstFit}
-use Rattle.coldstart.specs.ColdStart.{coldX}
+use Rattle.classes.specs.Classes.{xCount}
+use Rattle.coldstart.specs.ColdStart.{coldValues}
 use Rattle.inventory.specs.declared.Head.{Head}
 use Rattle.inventory.specs.declared.Run.{Run}
 use Rattle.inventory.specs.Records.{headGrounds}
@@ -28,11 +29,11 @@ emptyRun trip xs = record { trip = trip; x = xs; count = 0; km = tab noKm 3; gra
 
 -- the run of zeros
 unfoldable pub zeroRun : Run
-zeroRun = emptyRun 0 (tab noRest 15)
+zeroRun = emptyRun 0 (tab noRest xCount)
 
 -- the run of a head that opening takes
 unfoldable pub freshRun : Head → Run
-freshRun head = emptyRun (head .trip) (tab (coldX (head .trip) (head .temps)) 15)
+freshRun head = emptyRun (head .trip) (coldValues (head .trip) (head .temps))
 
 -- the number of opening: 0 where the head is taken
 unfoldable pub openNumber : Head → ℕ

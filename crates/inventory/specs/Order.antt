@@ -6,6 +6,7 @@ use lib.Dec.{leb, ltb}
 use lib.ListN.{getD}
 use Rattle.units.specs.Lists.{allBelow}
 use Rattle.units.specs.Grounds.{outside}
+use Rattle.classes.specs.Classes.{xCount}
 use Rattle.inventory.specs.declared.Run.{Run}
 
 -- the whole grams of the sum j = fuel × 20 + quantity × 4 + kind
@@ -44,4 +45,4 @@ kmOk run fuel = leb (kmIn run fuel) (1000000000 * run .count)
 
 unfoldable pub inOrder : Run → Bool
 inOrder run =
-    not (outside 10 200 (run .trip)) && allBelow (xOk run) 15 && leb (run .count) recordLimit && allBelow (sumOk run) 60 && allBelow (kmOk run) 3
+    not (outside 10 200 (run .trip)) && allBelow (xOk run) xCount && leb (run .count) recordLimit && allBelow (sumOk run) 60 && allBelow (kmOk run) 3

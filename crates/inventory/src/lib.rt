@@ -38,12 +38,12 @@ pub struct Record {
     pub speeds: Speeds,
 }
 
-// A run: the head's trip length and values X (fuel × 5 + quantity), the record count, the kilometres of each fuel,
+// A run: the head's trip length and values X (fuel × 5 + quantity, then CO of class 3), the record count, the kilometres of each fuel,
 // and 60 sums (fuel × 20 + quantity × 4 + kind) as whole grams and a rest in billionths.
 #[repr(C)]
 pub struct Run {
     pub trip: u64,
-    pub x: [u64; 15],
+    pub x: [u64; 16],
     pub count: u64,
     pub km: [VehicleKm; 3],
     pub grams: [Grams; 60],

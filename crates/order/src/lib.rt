@@ -2,6 +2,7 @@
 ghost use mathlib.Core.Path.{_≡_};
 ghost use Prim.Native.Nat.{_≤_, _<_};
 ghost use Rattle.units.specs.Lists.{allBelow};
+ghost use Rattle.classes.specs.Classes.{xCount};
 ghost use Rattle.inventory.specs.Order.{inOrder, sumWithin, sumOk, xOk, kmOk};
 use inventory::Run;
 use units::Grams;
@@ -71,10 +72,10 @@ fn sums_ok(run: Run) -> bool
 }
 
 fn xs_ok(run: Run) -> bool
-    ensures { λ b. ⌜ b ≡ allBelow (xOk run) 15 ⌝ }
+    ensures { λ b. ⌜ b ≡ allBelow (xOk run) xCount ⌝ }
 {
     let mut k: usize = 0;
-    while k < 15 {
+    while k < 16 {
         if 4900000000 < run.x[k] {
             return false;
         }

@@ -13,8 +13,7 @@ use Rattle.units.specs.Grounds.{ground, firstFit}
 use Rattle.units.specs.Refusals.{refusalNumber, verdictNumber}
 use Rattle.units.proofs.Grounds.{fit-append}
 use Rattle.units.proofs.Refusals.{number-positive, taken-number, refused-number}
-use Rattle.units.specs.Lists.{tab}
-use Rattle.coldstart.specs.ColdStart.{coldX}
+use Rattle.coldstart.specs.ColdStart.{coldValues}
 use Rattle.inventory.specs.declared.Head.{Head}
 use Rattle.inventory.specs.declared.Record.{Record}
 use Rattle.inventory.specs.declared.Run.{Run}
@@ -48,7 +47,7 @@ module _ (head : Head) where
   opened-order z = every-list head z .list [] .ordered
 
 -- the fresh run, made from the run of zeros
-pub fresh-made : (head : Head) (z : Run) (xs : List ℕ) → z ≡ zeroRun → xs ≡ tab (coldX (head .trip) (head .temps)) 15
+pub fresh-made : (head : Head) (z : Run) (xs : List ℕ) → z ≡ zeroRun → xs ≡ coldValues (head .trip) (head .temps)
     → _≡_ {A = Run} (record { trip = head .trip; x = xs; count = z .count; km = z .km; grams = z .grams; rests = z .rests }) (freshRun head)
 unfolding freshRun zeroRun emptyRun
 fresh-made head z xs e h = rw (e, h)

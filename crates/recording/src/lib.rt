@@ -24,7 +24,7 @@ pub fn zeros() -> Run
 {
     Run {
         trip: 0,
-        x: [0; 15],
+        x: [0; 16],
         count: 0,
         km: [VehicleKm(0); 3],
         grams: [Grams(0); 60],

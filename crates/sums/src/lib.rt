@@ -15,7 +15,7 @@ pub struct WholeGrams {
 }
 
 // The sums with a record that is taken, by their parts: a run by value would be copied twice for each record of a sheet.
-pub fn sums_with(grams: WholeGrams, rests: &mut [u64; 60], x: &[u64; 15], rec: Record) -> WholeGrams
+pub fn sums_with(grams: WholeGrams, rests: &mut [u64; 60], x: &[u64; 16], rec: Record) -> WholeGrams
     requires { ⌜ RecordLimits rec ⌝ }
     requires { ⌜ RunLimits (ofSums (now x) (grams .sums) (now rests)) ⌝ }
     requires { ⌜ length (now rests) ≡ 60 ⌝ }
@@ -38,7 +38,7 @@ pub fn sums_with(grams: WholeGrams, rests: &mut [u64; 60], x: &[u64; 15], rec: R
         let urban = f[q * 3];
         let rural = f[q * 3 + 1];
         let highway = f[q * 3 + 2];
-        let c = amounts::cold_rate(rec.class, urban, x[fuel * 5 + q]);
+        let c = amounts::cold_rate(rec.class, q, urban, x);
         let s0 = amounts::with_hot(r.sums[b], rests[b], k, shares.urban, urban);
         let s1 = amounts::with_hot(r.sums[b + 1], rests[b + 1], k, shares.rural, rural);
         let s2 = amounts::with_hot(r.sums[b + 2], rests[b + 2], k, shares.highway, highway);

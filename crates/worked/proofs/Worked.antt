@@ -12,9 +12,9 @@ use Rattle.units.specs.Grounds.{outside, firstFit}
 use Rattle.units.specs.Rounding.{halfUp}
 use Rattle.units.specs.Fractions.{over, plus}
 use Rattle.curves.specs.Curves.{quadratic}
-use Rattle.classes.specs.Classes.{fuelOf, hasCold}
+use Rattle.classes.specs.Classes.{fuelOf, hasCold, hasOwnX, betaReduction, xPlace}
 use Rattle.factors.specs.Factors.{coefficients, twoStroke, curve, emissionFactor}
-use Rattle.coldstart.specs.ColdStart.{temperatureOk, coldShare, slopes, coldRatio, coldExcess, monthProduct, coldSum, coldX, coldFactor}
+use Rattle.coldstart.specs.ColdStart.{temperatureOk, coldShare, slopes, coldRatio, coldExcess, monthProduct, coldSum, xFrom, coldX, coldFactor}
 use Rattle.inventory.specs.declared.Record.{Record}
 use Rattle.inventory.specs.Records.{temperaturesWrong, headGrounds, vehicleKm, sharesWrong, speedsWrong, recordGrounds}
 use Rattle.inventory.specs.Order.{sumAt, sumWithin, inOrder}
@@ -25,7 +25,7 @@ use Rattle.accuracy.specs.Reference.{acceptable, hasRoom, accepts, exactHot, ex
 use Rattle.accuracy.specs.Claim.{runAfter}
 use Rattle.accuracy.specs.Numbers.{exampleHead, exampleOf}
 use Rattle.accuracy.proofs.Sums.{sumOf}
-use Rattle.accuracy.proofs.OneRecord.{xOf, brings, exactIn}
+use Rattle.accuracy.proofs.OneRecord.{headX, brings, exactIn}
 use Rattle.accuracy.proofs.Closed.{kmSum, closed}
 use Rattle.accuracy.proofs.Distance.{reference-count, reference-km, reference-exact, total-closed}
 use Rattle.accuracy.proofs.Whole.{after, every-list}
@@ -60,12 +60,14 @@ unfolding addNumber addGrounds firstFit recordGrounds outside vehicleKm sharesWr
 next-number n h = rw (every-list exampleHead taken .list (many n) .ordered, count-many n h)
 
 pub worked : WorkedClaim
-unfolding tab allBelow sumTo outside firstFit halfUp plus fuelOf hasCold coefficients twoStroke quadratic curve emissionFactor temperatureOk coldShare slopes coldRatio coldExcess monthProduct coldSum coldX coldFactor temperaturesWrong headGrounds vehicleKm sharesWrong speedsWrong recordGrounds sumAt sumWithin inOrder billionths hotPart coldRate coldPart partOf partAt slotAfter kmOf kmAfter runWith addGrounds addNumber addRun emptyRun freshRun openNumber openRun exactTotal printedTotal totalGrounds answered totalOf acceptable hasRoom accepts exactHot exactCold exactOf empty withRecord fed referenceFrom referenceOf runAfter accepted kmSum brings exactIn
+unfolding tab allBelow sumTo outside firstFit halfUp plus fuelOf hasCold hasOwnX betaReduction xPlace coefficients twoStroke quadratic curve emissionFactor temperatureOk coldShare slopes coldRatio coldExcess monthProduct coldSum xFrom coldX coldFactor temperaturesWrong headGrounds vehicleKm sharesWrong speedsWrong recordGrounds sumAt sumWithin inOrder billionths hotPart coldRate coldPart partOf partAt slotAfter kmOf kmAfter runWith addGrounds addNumber addRun emptyRun freshRun openNumber openRun exactTotal printedTotal totalGrounds answered totalOf acceptable hasRoom accepts exactHot exactCold exactOf empty withRecord fed referenceFrom referenceOf runAfter accepted kmSum brings exactIn
 worked =
     let all : acceptedFrom 0 (many 5000) ≡ many 5000 = many-accepted 5000 0 (lit≤ tt) in
     record {
       refused-between = record { totals = refl; counted = refl; distance = refl; numerators = refl };
       three-fuels = record { totals = refl; counted = refl; distance = refl; numerators = refl };
+      class-3 = record { totals = refl; counted = refl; distance = refl; numerators = refl };
+      classes-2-and-3 = record { totals = refl; counted = refl; distance = refl; numerators = refl };
       last-taken = next-number 4999 (lit≤ tt);
       next-refused = next-number 5000 (lit≤ tt);
       full-count = refl;
@@ -75,6 +77,6 @@ worked =
           ∙ ap (λ l. over (sumOf (exactIn exampleHead 0 0) l) exactDenominator) all
           ∙ ap (λ n. over n exactDenominator) (many-sum (exactIn exampleHead 0 0) 5000);
       full-total =
-          ap (λ run. printedTotal run 0 0) (after exampleHead taken (many 5000) ∙ ap (closed (exampleHead .trip) (xOf exampleHead)) all)
-          ∙ ap (λ n. halfUp n 1000000000) (total-closed (exampleHead .trip) (xOf exampleHead) (many 5000) 0 0 (lit< tt) (lit< tt) ∙ many-sum (brings (xOf exampleHead) 0 0) 5000);
+          ap (λ run. printedTotal run 0 0) (after exampleHead taken (many 5000) ∙ ap (closed (exampleHead .trip) (headX exampleHead)) all)
+          ∙ ap (λ n. halfUp n 1000000000) (total-closed (exampleHead .trip) (headX exampleHead) (many 5000) 0 0 (lit< tt) (lit< tt) ∙ many-sum (brings (headX exampleHead) 0 0) 5000);
     }

@@ -1,15 +1,17 @@
 -- `coldstart::rounded` meets its contract. Assumes nothing.
-use mathlib.Core.Path.{refl}
-use Prim.Native.Nat.{_≤_, _-_}
+use mathlib.Core.Path.{_≡_, refl, sym}
+use Prim.Native.Nat.{_≤_, _<_, _-_}
 use native.Mathlib.Omega.{arith}
 use Rattle.units.specs.Rounding.{halfUp}
-use Rattle.units.proofs.Tab.{Filled, filled-none, filled-more, filled}
-use Rattle.coldstart.specs.ColdStart.{xFrom}
+use Rattle.units.proofs.Tab.{Filled, filled-none, filled-more, filled-at, filled}
+use borrow.Author.Tests.{lt-ltb}
+use Rattle.classes.specs.Classes.{hasOwnX, betaReduction, xCount}
+use Rattle.coldstart.specs.ColdStart.{xFrom, xOfSums}
 use Rattle.coldstart.proofs.rounded.Statement.{statement}
 use Rattle.coldstart.proofs.rounded.Tie as tie
 
 abbrev Inv-loop : tie.InvT-loop
-Inv-loop sums x₀ i₀ x i = (i ≤ 15) × Filled (xFrom sums) 15 x i
+Inv-loop sums x₀ i₀ x i = (i ≤ 15) × Filled (xOfSums sums) xCount x i
 
 abbrev μ-loop : tie.MeasureT-loop
 μ-loop sums x₀ i₀ x i = 15 - i
@@ -40,10 +42,28 @@ loop-less c = omega arith
 
 loop-again : tie.Need-loop-again Inv-loop μ-loop
 unfolding xFrom halfUp
-loop-again c = (omega arith, filled-more _ (c .before .loop .inv .1) (omega arith) (omega arith))
+loop-again c =
+    let h : c .before .loop .i < 15 = c .loop-test .taken in
+    (omega arith, filled-more _ (c .before .loop .inv .1) (omega arith) (rw (lt-ltb (c .before .loop .i) 15 h) (omega arith)))
+
+array-read-x-2 : tie.Need-array-read-x-2 Inv-loop μ-loop
+array-read-x-2 c = omega arith
+
+mul-x-3 : tie.Need-mul-x-3 Inv-loop μ-loop
+mul-x-3 c = omega (arith, c .before .before .pre .each 0 (omega arith))
+
+add-x-2 : tie.Need-add-x-2 Inv-loop μ-loop
+add-x-2 c = omega (arith, c .before .before .pre .each 0 (omega arith))
+
+array-write-x-2 : tie.Need-array-write-x-2 Inv-loop μ-loop
+array-write-x-2 c = omega arith
 
 returns : tie.Need-returns Inv-loop μ-loop
-returns c = filled (c .before .loop .inv .1) (omega arith) (omega arith)
+unfolding xFrom halfUp betaReduction hasOwnX
+returns c =
+    let inv = c .before .loop .inv in
+    let last : c .before .loop .i ≡ 15 = omega (arith, inv .0, c .loop-test .left) in
+    filled (filled-at 15 xCount _ (inv .1) (sym last) refl (omega arith) (omega arith)) (omega arith) (omega arith)
 
 pub rounded-spec : {M : Type 1} → statement M
 rounded-spec =
@@ -60,4 +80,8 @@ rounded-spec =
     add-i
     loop-less
     loop-again
+    array-read-x-2
+    mul-x-3
+    add-x-2
+    array-write-x-2
     returns)

@@ -5,7 +5,8 @@ use native.Mathlib.Omega.{arith}
 use lib.IntN.{pos, natAbs}
 use lib.ListN.{getD}
 use Rattle.units.specs.Lists.{tab, sumTo}
-use Rattle.coldstart.specs.ColdStart.{coldShare, withMonth, xFrom}
+use Rattle.classes.specs.Classes.{xCount}
+use Rattle.coldstart.specs.ColdStart.{coldShare, withMonth, xOfSums}
 use Rattle.coldstart.proofs.ColdStart.{read, read-ok, share-whole, small-sums, sumsTo, sums-more, sums-x}
 use Rattle.coldstart.proofs.values_of.Statement.{statement}
 use Rattle.coldstart.proofs.values_of.Tie as tie
@@ -61,7 +62,7 @@ returns : tie.Need-returns Inv-loop μ-loop
 returns c =
     let s = c .before .before .before in
     let last : c .before .before .loop .k ≡ 12 = omega arith in
-    c .rounded .ensures ∙ ap (λ y. tab (xFrom y) 15) (c .before .before .loop .inv .1 ∙ ap (λ k. tab (sumsTo (s .args .l) (s .args .temps .now) k) 15) last) ∙ sums-x _ _
+    c .rounded .ensures ∙ ap (λ y. tab (xOfSums y) xCount) (c .before .before .loop .inv .1 ∙ ap (λ k. tab (sumsTo (s .args .l) (s .args .temps .now) k) 15) last) ∙ sums-x _ _
 
 pub values-of-spec : {M : Type 1} → statement M
 values-of-spec =

@@ -6,16 +6,17 @@ use native.Mathlib.Omega.{arith}
 use borrow.Author.Needs.{needs}
 use borrow.Author.Tests.{le-leb, lt-leb}
 use Rattle.units.specs.Lists.{allBelow}
+use Rattle.classes.specs.Classes.{xCount}
 use Rattle.inventory.specs.Order.{xOk}
 use Rattle.units.proofs.Tests.{more, fails, done}
 use Rattle.order.proofs.xs_ok.Statement.{statement}
 use Rattle.order.proofs.xs_ok.Tie as tie
 
 abbrev Inv-loop : tie.InvT-loop
-Inv-loop run k₀ k = (k ≤ 15) × (allBelow (xOk run) k ≡ true)
+Inv-loop run k₀ k = (k ≤ xCount) × (allBelow (xOk run) k ≡ true)
 
 abbrev μ-loop : tie.MeasureT-loop
-μ-loop run k₀ k = 15 - k
+μ-loop run k₀ k = xCount - k
 
 loop-holds : tie.Need-loop-holds Inv-loop μ-loop
 unfolding allBelow
@@ -28,7 +29,7 @@ element-copy-out-if1 : tie.Need-element-copy-out-if1 Inv-loop μ-loop
 element-copy-out-if1 c = search needs
 
 returns : tie.Need-returns Inv-loop μ-loop
-returns c = sym (fails _ 15 _ (omega arith) (lt-leb _ _ (c .if1 .taken)))
+returns c = sym (fails _ xCount _ (omega arith) (lt-leb _ _ (c .if1 .taken)))
 
 add-k : tie.Need-add-k Inv-loop μ-loop
 add-k c = search needs
@@ -40,7 +41,7 @@ loop-again : tie.Need-loop-again Inv-loop μ-loop
 loop-again c = (search needs, more _ _ (c .before .before .before .loop .inv .1) (le-leb _ _ (c .if1 .left)))
 
 returns-2 : tie.Need-returns-2 Inv-loop μ-loop
-returns-2 c = done _ 15 _ (c .before .loop .inv .1) (omega arith) (omega arith)
+returns-2 c = done _ xCount _ (c .before .loop .inv .1) (omega arith) (omega arith)
 
 pub xs-ok-spec : {M : Type 1} → statement M
 xs-ok-spec =

@@ -78,192 +78,180 @@ mul-highway-2 c = search needs
 array-read-highway : tie.Need-array-read-highway Inv-loop μ-loop
 array-read-highway c = search needs
 
-mul-cold-rate : tie.Need-mul-cold-rate Inv-loop μ-loop
-mul-cold-rate c = search needs
-
-add-cold-rate : tie.Need-add-cold-rate Inv-loop μ-loop
-add-cold-rate c = search needs
-
-mul-cold-rate-2 : tie.Need-mul-cold-rate-2 Inv-loop μ-loop
-mul-cold-rate-2 c = search needs
-
-element-copy-out-cold-rate : tie.Need-element-copy-out-cold-rate Inv-loop μ-loop
-element-copy-out-cold-rate c = search needs
-
 cold-rate-requires : tie.Need-cold-rate-requires Inv-loop μ-loop
-cold-rate-requires c κs = let s = c .before .before .before .before .before .before .before in let l = c .before .before .loop in let h = c .before .loop-test .taken in let fuel = c .before .before .before .before .before .fuel-of .result in (factor-most (s .args .rec) _ (c .before .before .before .factors-of .ensures) (s .pre .0) _ (omega (arith, l .inv .0, h)), s .pre .1 .0 .x-most _ (omega (arith, l .inv .0, l .inv .1, h)))
+cold-rate-requires c κs = let s = c .before .before .before .before .before .before in let l = c .before .loop in let h = c .loop-test .taken in (h, factor-most (s .args .rec) _ (c .before .before .factors-of .ensures) (s .pre .0) _ (omega (arith, l .inv .0, h)), s .pre .1 .0 .x-most)
 
 mul-with-hot : tie.Need-mul-with-hot Inv-loop μ-loop
-mul-with-hot c = omega (arith, c .before .before .before .loop .inv .0, c .before .before .before .loop .inv .1, c .before .before .loop-test .taken)
+mul-with-hot c = omega (arith, c .before .before .loop .inv .0, c .before .before .loop .inv .1, c .before .loop-test .taken)
 
 element-copy-out-with-hot : tie.Need-element-copy-out-with-hot Inv-loop μ-loop
-element-copy-out-with-hot c = omega (arith, c .before .before .before .loop .inv .0, c .before .before .before .loop .inv .1, c .before .before .loop-test .taken)
+element-copy-out-with-hot c = omega (arith, c .before .before .loop .inv .0, c .before .before .loop .inv .1, c .before .loop-test .taken)
 
 mul-with-hot-2 : tie.Need-mul-with-hot-2 Inv-loop μ-loop
-mul-with-hot-2 c = omega (arith, c .before .before .before .before .loop .inv .0, c .before .before .before .before .loop .inv .1, c .before .before .before .loop-test .taken)
+mul-with-hot-2 c = omega (arith, c .before .before .before .loop .inv .0, c .before .before .before .loop .inv .1, c .before .before .loop-test .taken)
 
 element-copy-out-with-hot-2 : tie.Need-element-copy-out-with-hot-2 Inv-loop μ-loop
-element-copy-out-with-hot-2 c = omega (arith, c .before .before .before .before .loop .inv .0, c .before .before .before .before .loop .inv .1, c .before .before .before .loop-test .taken)
+element-copy-out-with-hot-2 c = omega (arith, c .before .before .before .loop .inv .0, c .before .before .before .loop .inv .1, c .before .before .loop-test .taken)
 
 with-hot-requires : tie.Need-with-hot-requires Inv-loop μ-loop
 unfolding vehicleKm
-with-hot-requires c κs = let s = c .before .before .before .before .before .before .before .before .before .before in let l = c .before .before .before .before .before .loop in let h = c .before .before .before .before .loop-test .taken in let fuel = c .before .before .before .before .before .before .before .before .fuel-of .result in (slot-small (s .pre .1 .0) (l .inv .2) (l .inv .3) (fuel * 20 + l .q * 4) (omega (arith, l .inv .0, l .inv .1, h)) (omega (arith, l .inv .0, l .inv .1, h)), (s .pre .0 .distance, s .pre .0 .share 0 (omega arith), factor-most (s .args .rec) _ (c .before .before .before .before .before .before .factors-of .ensures) (s .pre .0) _ (omega (arith, l .inv .0, h))))
+with-hot-requires c κs = let s = c .before .before .before .before .before .before .before .before .before in let l = c .before .before .before .before .loop in let h = c .before .before .before .loop-test .taken in let fuel = c .before .before .before .before .before .before .before .fuel-of .result in (slot-small (s .pre .1 .0) (l .inv .2) (l .inv .3) (fuel * 20 + l .q * 4) (omega (arith, l .inv .0, l .inv .1, h)) (omega (arith, l .inv .0, l .inv .1, h)), (s .pre .0 .distance, s .pre .0 .share 0 (omega arith), factor-most (s .args .rec) _ (c .before .before .before .before .before .factors-of .ensures) (s .pre .0) _ (omega (arith, l .inv .0, h))))
 
 add-with-hot : tie.Need-add-with-hot Inv-loop μ-loop
-add-with-hot c = omega (arith, c .before .before .before .before .before .before .loop .inv .0, c .before .before .before .before .before .before .loop .inv .1, c .before .before .before .before .before .loop-test .taken)
+add-with-hot c = omega (arith, c .before .before .before .before .before .loop .inv .0, c .before .before .before .before .before .loop .inv .1, c .before .before .before .before .loop-test .taken)
 
 mul-with-hot-3 : tie.Need-mul-with-hot-3 Inv-loop μ-loop
-mul-with-hot-3 c = omega (arith, c .before .before .before .before .before .before .loop .inv .0, c .before .before .before .before .before .before .loop .inv .1, c .before .before .before .before .before .loop-test .taken)
+mul-with-hot-3 c = omega (arith, c .before .before .before .before .before .loop .inv .0, c .before .before .before .before .before .loop .inv .1, c .before .before .before .before .loop-test .taken)
 
 element-copy-out-with-hot-3 : tie.Need-element-copy-out-with-hot-3 Inv-loop μ-loop
-element-copy-out-with-hot-3 c = omega (arith, c .before .before .before .before .before .before .loop .inv .0, c .before .before .before .before .before .before .loop .inv .1, c .before .before .before .before .before .loop-test .taken)
+element-copy-out-with-hot-3 c = omega (arith, c .before .before .before .before .before .loop .inv .0, c .before .before .before .before .before .loop .inv .1, c .before .before .before .before .loop-test .taken)
 
 add-with-hot-2 : tie.Need-add-with-hot-2 Inv-loop μ-loop
-add-with-hot-2 c = omega (arith, c .before .before .before .before .before .before .before .loop .inv .0, c .before .before .before .before .before .before .before .loop .inv .1, c .before .before .before .before .before .before .loop-test .taken)
+add-with-hot-2 c = omega (arith, c .before .before .before .before .before .before .loop .inv .0, c .before .before .before .before .before .before .loop .inv .1, c .before .before .before .before .before .loop-test .taken)
 
 mul-with-hot-4 : tie.Need-mul-with-hot-4 Inv-loop μ-loop
-mul-with-hot-4 c = omega (arith, c .before .before .before .before .before .before .before .loop .inv .0, c .before .before .before .before .before .before .before .loop .inv .1, c .before .before .before .before .before .before .loop-test .taken)
+mul-with-hot-4 c = omega (arith, c .before .before .before .before .before .before .loop .inv .0, c .before .before .before .before .before .before .loop .inv .1, c .before .before .before .before .before .loop-test .taken)
 
 element-copy-out-with-hot-4 : tie.Need-element-copy-out-with-hot-4 Inv-loop μ-loop
-element-copy-out-with-hot-4 c = omega (arith, c .before .before .before .before .before .before .before .loop .inv .0, c .before .before .before .before .before .before .before .loop .inv .1, c .before .before .before .before .before .before .loop-test .taken)
+element-copy-out-with-hot-4 c = omega (arith, c .before .before .before .before .before .before .loop .inv .0, c .before .before .before .before .before .before .loop .inv .1, c .before .before .before .before .before .loop-test .taken)
 
 with-hot-requires-2 : tie.Need-with-hot-requires-2 Inv-loop μ-loop
 unfolding vehicleKm
-with-hot-requires-2 c κs = let s = c .before .before .before .before .before .before .before .before .before .before .before .before .before in let l = c .before .before .before .before .before .before .before .before .loop in let h = c .before .before .before .before .before .before .before .loop-test .taken in let fuel = c .before .before .before .before .before .before .before .before .before .before .before .fuel-of .result in (slot-small (s .pre .1 .0) (l .inv .2) (l .inv .3) (fuel * 20 + l .q * 4 + 1) (omega (arith, l .inv .0, l .inv .1, h)) (omega (arith, l .inv .0, l .inv .1, h)), (s .pre .0 .distance, s .pre .0 .share 1 (omega arith), factor-most (s .args .rec) _ (c .before .before .before .before .before .before .before .before .before .factors-of .ensures) (s .pre .0) _ (omega (arith, l .inv .0, h))))
+with-hot-requires-2 c κs = let s = c .before .before .before .before .before .before .before .before .before .before .before .before in let l = c .before .before .before .before .before .before .before .loop in let h = c .before .before .before .before .before .before .loop-test .taken in let fuel = c .before .before .before .before .before .before .before .before .before .before .fuel-of .result in (slot-small (s .pre .1 .0) (l .inv .2) (l .inv .3) (fuel * 20 + l .q * 4 + 1) (omega (arith, l .inv .0, l .inv .1, h)) (omega (arith, l .inv .0, l .inv .1, h)), (s .pre .0 .distance, s .pre .0 .share 1 (omega arith), factor-most (s .args .rec) _ (c .before .before .before .before .before .before .before .before .factors-of .ensures) (s .pre .0) _ (omega (arith, l .inv .0, h))))
 
 add-with-hot-3 : tie.Need-add-with-hot-3 Inv-loop μ-loop
-add-with-hot-3 c = omega (arith, c .before .before .before .before .before .before .before .before .before .loop .inv .0, c .before .before .before .before .before .before .before .before .before .loop .inv .1, c .before .before .before .before .before .before .before .before .loop-test .taken)
+add-with-hot-3 c = omega (arith, c .before .before .before .before .before .before .before .before .loop .inv .0, c .before .before .before .before .before .before .before .before .loop .inv .1, c .before .before .before .before .before .before .before .loop-test .taken)
 
 mul-with-hot-5 : tie.Need-mul-with-hot-5 Inv-loop μ-loop
-mul-with-hot-5 c = omega (arith, c .before .before .before .before .before .before .before .before .before .loop .inv .0, c .before .before .before .before .before .before .before .before .before .loop .inv .1, c .before .before .before .before .before .before .before .before .loop-test .taken)
+mul-with-hot-5 c = omega (arith, c .before .before .before .before .before .before .before .before .loop .inv .0, c .before .before .before .before .before .before .before .before .loop .inv .1, c .before .before .before .before .before .before .before .loop-test .taken)
 
 element-copy-out-with-hot-5 : tie.Need-element-copy-out-with-hot-5 Inv-loop μ-loop
-element-copy-out-with-hot-5 c = omega (arith, c .before .before .before .before .before .before .before .before .before .loop .inv .0, c .before .before .before .before .before .before .before .before .before .loop .inv .1, c .before .before .before .before .before .before .before .before .loop-test .taken)
+element-copy-out-with-hot-5 c = omega (arith, c .before .before .before .before .before .before .before .before .loop .inv .0, c .before .before .before .before .before .before .before .before .loop .inv .1, c .before .before .before .before .before .before .before .loop-test .taken)
 
 add-with-hot-4 : tie.Need-add-with-hot-4 Inv-loop μ-loop
-add-with-hot-4 c = omega (arith, c .before .before .before .before .before .before .before .before .before .before .loop .inv .0, c .before .before .before .before .before .before .before .before .before .before .loop .inv .1, c .before .before .before .before .before .before .before .before .before .loop-test .taken)
+add-with-hot-4 c = omega (arith, c .before .before .before .before .before .before .before .before .before .loop .inv .0, c .before .before .before .before .before .before .before .before .before .loop .inv .1, c .before .before .before .before .before .before .before .before .loop-test .taken)
 
 mul-with-hot-6 : tie.Need-mul-with-hot-6 Inv-loop μ-loop
-mul-with-hot-6 c = omega (arith, c .before .before .before .before .before .before .before .before .before .before .loop .inv .0, c .before .before .before .before .before .before .before .before .before .before .loop .inv .1, c .before .before .before .before .before .before .before .before .before .loop-test .taken)
+mul-with-hot-6 c = omega (arith, c .before .before .before .before .before .before .before .before .before .loop .inv .0, c .before .before .before .before .before .before .before .before .before .loop .inv .1, c .before .before .before .before .before .before .before .before .loop-test .taken)
 
 element-copy-out-with-hot-6 : tie.Need-element-copy-out-with-hot-6 Inv-loop μ-loop
-element-copy-out-with-hot-6 c = omega (arith, c .before .before .before .before .before .before .before .before .before .before .loop .inv .0, c .before .before .before .before .before .before .before .before .before .before .loop .inv .1, c .before .before .before .before .before .before .before .before .before .loop-test .taken)
+element-copy-out-with-hot-6 c = omega (arith, c .before .before .before .before .before .before .before .before .before .loop .inv .0, c .before .before .before .before .before .before .before .before .before .loop .inv .1, c .before .before .before .before .before .before .before .before .loop-test .taken)
 
 with-hot-requires-3 : tie.Need-with-hot-requires-3 Inv-loop μ-loop
 unfolding vehicleKm
-with-hot-requires-3 c κs = let s = c .before .before .before .before .before .before .before .before .before .before .before .before .before .before .before .before in let l = c .before .before .before .before .before .before .before .before .before .before .before .loop in let h = c .before .before .before .before .before .before .before .before .before .before .loop-test .taken in let fuel = c .before .before .before .before .before .before .before .before .before .before .before .before .before .before .fuel-of .result in (slot-small (s .pre .1 .0) (l .inv .2) (l .inv .3) (fuel * 20 + l .q * 4 + 2) (omega (arith, l .inv .0, l .inv .1, h)) (omega (arith, l .inv .0, l .inv .1, h)), (s .pre .0 .distance, s .pre .0 .share 2 (omega arith), factor-most (s .args .rec) _ (c .before .before .before .before .before .before .before .before .before .before .before .before .factors-of .ensures) (s .pre .0) _ (omega (arith, l .inv .0, h))))
+with-hot-requires-3 c κs = let s = c .before .before .before .before .before .before .before .before .before .before .before .before .before .before .before in let l = c .before .before .before .before .before .before .before .before .before .before .loop in let h = c .before .before .before .before .before .before .before .before .before .loop-test .taken in let fuel = c .before .before .before .before .before .before .before .before .before .before .before .before .before .fuel-of .result in (slot-small (s .pre .1 .0) (l .inv .2) (l .inv .3) (fuel * 20 + l .q * 4 + 2) (omega (arith, l .inv .0, l .inv .1, h)) (omega (arith, l .inv .0, l .inv .1, h)), (s .pre .0 .distance, s .pre .0 .share 2 (omega arith), factor-most (s .args .rec) _ (c .before .before .before .before .before .before .before .before .before .before .before .factors-of .ensures) (s .pre .0) _ (omega (arith, l .inv .0, h))))
 
 add-with-cold : tie.Need-add-with-cold Inv-loop μ-loop
-add-with-cold c = omega (arith, c .before .before .before .before .before .before .before .before .before .before .before .before .loop .inv .0, c .before .before .before .before .before .before .before .before .before .before .before .before .loop .inv .1, c .before .before .before .before .before .before .before .before .before .before .before .loop-test .taken)
+add-with-cold c = omega (arith, c .before .before .before .before .before .before .before .before .before .before .before .loop .inv .0, c .before .before .before .before .before .before .before .before .before .before .before .loop .inv .1, c .before .before .before .before .before .before .before .before .before .before .loop-test .taken)
 
 mul-with-cold : tie.Need-mul-with-cold Inv-loop μ-loop
-mul-with-cold c = omega (arith, c .before .before .before .before .before .before .before .before .before .before .before .before .loop .inv .0, c .before .before .before .before .before .before .before .before .before .before .before .before .loop .inv .1, c .before .before .before .before .before .before .before .before .before .before .before .loop-test .taken)
+mul-with-cold c = omega (arith, c .before .before .before .before .before .before .before .before .before .before .before .loop .inv .0, c .before .before .before .before .before .before .before .before .before .before .before .loop .inv .1, c .before .before .before .before .before .before .before .before .before .before .loop-test .taken)
 
 element-copy-out-with-cold : tie.Need-element-copy-out-with-cold Inv-loop μ-loop
-element-copy-out-with-cold c = omega (arith, c .before .before .before .before .before .before .before .before .before .before .before .before .loop .inv .0, c .before .before .before .before .before .before .before .before .before .before .before .before .loop .inv .1, c .before .before .before .before .before .before .before .before .before .before .before .loop-test .taken)
+element-copy-out-with-cold c = omega (arith, c .before .before .before .before .before .before .before .before .before .before .before .loop .inv .0, c .before .before .before .before .before .before .before .before .before .before .before .loop .inv .1, c .before .before .before .before .before .before .before .before .before .before .loop-test .taken)
 
 add-with-cold-2 : tie.Need-add-with-cold-2 Inv-loop μ-loop
-add-with-cold-2 c = omega (arith, c .before .before .before .before .before .before .before .before .before .before .before .before .before .loop .inv .0, c .before .before .before .before .before .before .before .before .before .before .before .before .before .loop .inv .1, c .before .before .before .before .before .before .before .before .before .before .before .before .loop-test .taken)
+add-with-cold-2 c = omega (arith, c .before .before .before .before .before .before .before .before .before .before .before .before .loop .inv .0, c .before .before .before .before .before .before .before .before .before .before .before .before .loop .inv .1, c .before .before .before .before .before .before .before .before .before .before .before .loop-test .taken)
 
 mul-with-cold-2 : tie.Need-mul-with-cold-2 Inv-loop μ-loop
-mul-with-cold-2 c = omega (arith, c .before .before .before .before .before .before .before .before .before .before .before .before .before .loop .inv .0, c .before .before .before .before .before .before .before .before .before .before .before .before .before .loop .inv .1, c .before .before .before .before .before .before .before .before .before .before .before .before .loop-test .taken)
+mul-with-cold-2 c = omega (arith, c .before .before .before .before .before .before .before .before .before .before .before .before .loop .inv .0, c .before .before .before .before .before .before .before .before .before .before .before .before .loop .inv .1, c .before .before .before .before .before .before .before .before .before .before .before .loop-test .taken)
 
 element-copy-out-with-cold-2 : tie.Need-element-copy-out-with-cold-2 Inv-loop μ-loop
-element-copy-out-with-cold-2 c = omega (arith, c .before .before .before .before .before .before .before .before .before .before .before .before .before .loop .inv .0, c .before .before .before .before .before .before .before .before .before .before .before .before .before .loop .inv .1, c .before .before .before .before .before .before .before .before .before .before .before .before .loop-test .taken)
+element-copy-out-with-cold-2 c = omega (arith, c .before .before .before .before .before .before .before .before .before .before .before .before .loop .inv .0, c .before .before .before .before .before .before .before .before .before .before .before .before .loop .inv .1, c .before .before .before .before .before .before .before .before .before .before .before .loop-test .taken)
 
 with-cold-requires : tie.Need-with-cold-requires Inv-loop μ-loop
 unfolding vehicleKm
-with-cold-requires c κs = let s = c .before .before .before .before .before .before .before .before .before .before .before .before .before .before .before .before .before .before .before in let l = c .before .before .before .before .before .before .before .before .before .before .before .before .before .before .loop in let h = c .before .before .before .before .before .before .before .before .before .before .before .before .before .loop-test .taken in let fuel = c .before .before .before .before .before .before .before .before .before .before .before .before .before .before .before .before .before .fuel-of .result in (slot-small (s .pre .1 .0) (l .inv .2) (l .inv .3) (fuel * 20 + l .q * 4 + 3) (omega (arith, l .inv .0, l .inv .1, h)) (omega (arith, l .inv .0, l .inv .1, h)), (s .pre .0 .distance, rate-small (s .args .rec) _ (c .before .before .before .before .before .before .before .before .before .before .before .before .before .before .before .factors-of .ensures) (l .q) h (ofSums (s .args .x .now) (s .args .grams .sums) (s .args .rests .now)) fuel (c .before .before .before .before .before .before .before .before .before .before .before .before .before .before .before .before .before .fuel-of .ensures) (s .pre .0) (s .pre .1 .0) _ (c .before .before .before .before .before .before .before .before .before .before .before .cold-rate .ensures)))
+with-cold-requires c κs = let s = c .before .before .before .before .before .before .before .before .before .before .before .before .before .before .before .before .before .before in let l = c .before .before .before .before .before .before .before .before .before .before .before .before .before .loop in let h = c .before .before .before .before .before .before .before .before .before .before .before .before .loop-test .taken in let fuel = c .before .before .before .before .before .before .before .before .before .before .before .before .before .before .before .before .fuel-of .result in (slot-small (s .pre .1 .0) (l .inv .2) (l .inv .3) (fuel * 20 + l .q * 4 + 3) (omega (arith, l .inv .0, l .inv .1, h)) (omega (arith, l .inv .0, l .inv .1, h)), (s .pre .0 .distance, rate-small (s .args .rec) _ (c .before .before .before .before .before .before .before .before .before .before .before .before .before .before .factors-of .ensures) (l .q) h (ofSums (s .args .x .now) (s .args .grams .sums) (s .args .rests .now)) fuel (c .before .before .before .before .before .before .before .before .before .before .before .before .before .before .before .before .fuel-of .ensures) (s .pre .0) (s .pre .1 .0) _ (c .before .before .before .before .before .before .before .before .before .before .before .cold-rate .ensures)))
 
 mul-m : tie.Need-mul-m Inv-loop μ-loop
-mul-m c = omega (arith, c .before .before .before .before .before .before .before .before .before .before .before .before .before .before .before .before .loop .inv .0, c .before .before .before .before .before .before .before .before .before .before .before .before .before .before .before .before .loop .inv .1, c .before .before .before .before .before .before .before .before .before .before .before .before .before .before .before .loop-test .taken)
+mul-m c = omega (arith, c .before .before .before .before .before .before .before .before .before .before .before .before .before .before .before .loop .inv .0, c .before .before .before .before .before .before .before .before .before .before .before .before .before .before .before .loop .inv .1, c .before .before .before .before .before .before .before .before .before .before .before .before .before .before .loop-test .taken)
 
 element-set-from-m : tie.Need-element-set-from-m Inv-loop μ-loop
-element-set-from-m c = omega (arith, c .before .before .before .before .before .before .before .before .before .before .before .before .before .before .before .before .loop .inv .0, c .before .before .before .before .before .before .before .before .before .before .before .before .before .before .before .before .loop .inv .1, c .before .before .before .before .before .before .before .before .before .before .before .before .before .before .before .loop-test .taken)
+element-set-from-m c = omega (arith, c .before .before .before .before .before .before .before .before .before .before .before .before .before .before .before .loop .inv .0, c .before .before .before .before .before .before .before .before .before .before .before .before .before .before .before .loop .inv .1, c .before .before .before .before .before .before .before .before .before .before .before .before .before .before .loop-test .taken)
 
 mul-rests : tie.Need-mul-rests Inv-loop μ-loop
-mul-rests c = omega (arith, c .before .before .before .before .before .before .before .before .before .before .before .before .before .before .before .before .loop .inv .0, c .before .before .before .before .before .before .before .before .before .before .before .before .before .before .before .before .loop .inv .1, c .before .before .before .before .before .before .before .before .before .before .before .before .before .before .before .loop-test .taken)
+mul-rests c = omega (arith, c .before .before .before .before .before .before .before .before .before .before .before .before .before .before .before .loop .inv .0, c .before .before .before .before .before .before .before .before .before .before .before .before .before .before .before .loop .inv .1, c .before .before .before .before .before .before .before .before .before .before .before .before .before .before .loop-test .taken)
 
 element-write-rests : tie.Need-element-write-rests Inv-loop μ-loop
-element-write-rests c = omega (arith, c .before .before .before .before .before .before .before .before .before .before .before .before .before .before .before .before .loop .inv .0, c .before .before .before .before .before .before .before .before .before .before .before .before .before .before .before .before .loop .inv .1, c .before .before .before .before .before .before .before .before .before .before .before .before .before .before .before .loop-test .taken)
+element-write-rests c = omega (arith, c .before .before .before .before .before .before .before .before .before .before .before .before .before .before .before .loop .inv .0, c .before .before .before .before .before .before .before .before .before .before .before .before .before .before .before .loop .inv .1, c .before .before .before .before .before .before .before .before .before .before .before .before .before .before .loop-test .taken)
 
 add-m : tie.Need-add-m Inv-loop μ-loop
-add-m c = omega (arith, c .before .before .before .before .before .before .before .before .before .before .before .before .before .before .before .before .before .loop .inv .0, c .before .before .before .before .before .before .before .before .before .before .before .before .before .before .before .before .before .loop .inv .1, c .before .before .before .before .before .before .before .before .before .before .before .before .before .before .before .before .loop-test .taken)
+add-m c = omega (arith, c .before .before .before .before .before .before .before .before .before .before .before .before .before .before .before .before .loop .inv .0, c .before .before .before .before .before .before .before .before .before .before .before .before .before .before .before .before .loop .inv .1, c .before .before .before .before .before .before .before .before .before .before .before .before .before .before .before .loop-test .taken)
 
 mul-m-2 : tie.Need-mul-m-2 Inv-loop μ-loop
-mul-m-2 c = omega (arith, c .before .before .before .before .before .before .before .before .before .before .before .before .before .before .before .before .before .loop .inv .0, c .before .before .before .before .before .before .before .before .before .before .before .before .before .before .before .before .before .loop .inv .1, c .before .before .before .before .before .before .before .before .before .before .before .before .before .before .before .before .loop-test .taken)
+mul-m-2 c = omega (arith, c .before .before .before .before .before .before .before .before .before .before .before .before .before .before .before .before .loop .inv .0, c .before .before .before .before .before .before .before .before .before .before .before .before .before .before .before .before .loop .inv .1, c .before .before .before .before .before .before .before .before .before .before .before .before .before .before .before .loop-test .taken)
 
 element-set-from-m-2 : tie.Need-element-set-from-m-2 Inv-loop μ-loop
-element-set-from-m-2 c = omega (arith, c .before .before .before .before .before .before .before .before .before .before .before .before .before .before .before .before .before .loop .inv .0, c .before .before .before .before .before .before .before .before .before .before .before .before .before .before .before .before .before .loop .inv .1, c .before .before .before .before .before .before .before .before .before .before .before .before .before .before .before .before .loop-test .taken)
+element-set-from-m-2 c = omega (arith, c .before .before .before .before .before .before .before .before .before .before .before .before .before .before .before .before .loop .inv .0, c .before .before .before .before .before .before .before .before .before .before .before .before .before .before .before .before .loop .inv .1, c .before .before .before .before .before .before .before .before .before .before .before .before .before .before .before .loop-test .taken)
 
 add-rests : tie.Need-add-rests Inv-loop μ-loop
-add-rests c = omega (arith, c .before .before .before .before .before .before .before .before .before .before .before .before .before .before .before .before .before .loop .inv .0, c .before .before .before .before .before .before .before .before .before .before .before .before .before .before .before .before .before .loop .inv .1, c .before .before .before .before .before .before .before .before .before .before .before .before .before .before .before .before .loop-test .taken)
+add-rests c = omega (arith, c .before .before .before .before .before .before .before .before .before .before .before .before .before .before .before .before .loop .inv .0, c .before .before .before .before .before .before .before .before .before .before .before .before .before .before .before .before .loop .inv .1, c .before .before .before .before .before .before .before .before .before .before .before .before .before .before .before .loop-test .taken)
 
 mul-rests-2 : tie.Need-mul-rests-2 Inv-loop μ-loop
-mul-rests-2 c = omega (arith, c .before .before .before .before .before .before .before .before .before .before .before .before .before .before .before .before .before .loop .inv .0, c .before .before .before .before .before .before .before .before .before .before .before .before .before .before .before .before .before .loop .inv .1, c .before .before .before .before .before .before .before .before .before .before .before .before .before .before .before .before .loop-test .taken)
+mul-rests-2 c = omega (arith, c .before .before .before .before .before .before .before .before .before .before .before .before .before .before .before .before .loop .inv .0, c .before .before .before .before .before .before .before .before .before .before .before .before .before .before .before .before .loop .inv .1, c .before .before .before .before .before .before .before .before .before .before .before .before .before .before .before .loop-test .taken)
 
 element-write-rests-2 : tie.Need-element-write-rests-2 Inv-loop μ-loop
-element-write-rests-2 c = omega (arith, c .before .before .before .before .before .before .before .before .before .before .before .before .before .before .before .before .before .loop .inv .0, c .before .before .before .before .before .before .before .before .before .before .before .before .before .before .before .before .before .loop .inv .1, c .before .before .before .before .before .before .before .before .before .before .before .before .before .before .before .before .loop-test .taken)
+element-write-rests-2 c = omega (arith, c .before .before .before .before .before .before .before .before .before .before .before .before .before .before .before .before .loop .inv .0, c .before .before .before .before .before .before .before .before .before .before .before .before .before .before .before .before .loop .inv .1, c .before .before .before .before .before .before .before .before .before .before .before .before .before .before .before .loop-test .taken)
 
 add-m-2 : tie.Need-add-m-2 Inv-loop μ-loop
-add-m-2 c = omega (arith, c .before .before .before .before .before .before .before .before .before .before .before .before .before .before .before .before .before .before .loop .inv .0, c .before .before .before .before .before .before .before .before .before .before .before .before .before .before .before .before .before .before .loop .inv .1, c .before .before .before .before .before .before .before .before .before .before .before .before .before .before .before .before .before .loop-test .taken)
+add-m-2 c = omega (arith, c .before .before .before .before .before .before .before .before .before .before .before .before .before .before .before .before .before .loop .inv .0, c .before .before .before .before .before .before .before .before .before .before .before .before .before .before .before .before .before .loop .inv .1, c .before .before .before .before .before .before .before .before .before .before .before .before .before .before .before .before .loop-test .taken)
 
 mul-m-3 : tie.Need-mul-m-3 Inv-loop μ-loop
-mul-m-3 c = omega (arith, c .before .before .before .before .before .before .before .before .before .before .before .before .before .before .before .before .before .before .loop .inv .0, c .before .before .before .before .before .before .before .before .before .before .before .before .before .before .before .before .before .before .loop .inv .1, c .before .before .before .before .before .before .before .before .before .before .before .before .before .before .before .before .before .loop-test .taken)
+mul-m-3 c = omega (arith, c .before .before .before .before .before .before .before .before .before .before .before .before .before .before .before .before .before .loop .inv .0, c .before .before .before .before .before .before .before .before .before .before .before .before .before .before .before .before .before .loop .inv .1, c .before .before .before .before .before .before .before .before .before .before .before .before .before .before .before .before .loop-test .taken)
 
 element-set-from-m-3 : tie.Need-element-set-from-m-3 Inv-loop μ-loop
-element-set-from-m-3 c = omega (arith, c .before .before .before .before .before .before .before .before .before .before .before .before .before .before .before .before .before .before .loop .inv .0, c .before .before .before .before .before .before .before .before .before .before .before .before .before .before .before .before .before .before .loop .inv .1, c .before .before .before .before .before .before .before .before .before .before .before .before .before .before .before .before .before .loop-test .taken)
+element-set-from-m-3 c = omega (arith, c .before .before .before .before .before .before .before .before .before .before .before .before .before .before .before .before .before .loop .inv .0, c .before .before .before .before .before .before .before .before .before .before .before .before .before .before .before .before .before .loop .inv .1, c .before .before .before .before .before .before .before .before .before .before .before .before .before .before .before .before .loop-test .taken)
 
 add-rests-2 : tie.Need-add-rests-2 Inv-loop μ-loop
-add-rests-2 c = omega (arith, c .before .before .before .before .before .before .before .before .before .before .before .before .before .before .before .before .before .before .loop .inv .0, c .before .before .before .before .before .before .before .before .before .before .before .before .before .before .before .before .before .before .loop .inv .1, c .before .before .before .before .before .before .before .before .before .before .before .before .before .before .before .before .before .loop-test .taken)
+add-rests-2 c = omega (arith, c .before .before .before .before .before .before .before .before .before .before .before .before .before .before .before .before .before .loop .inv .0, c .before .before .before .before .before .before .before .before .before .before .before .before .before .before .before .before .before .loop .inv .1, c .before .before .before .before .before .before .before .before .before .before .before .before .before .before .before .before .loop-test .taken)
 
 mul-rests-3 : tie.Need-mul-rests-3 Inv-loop μ-loop
-mul-rests-3 c = omega (arith, c .before .before .before .before .before .before .before .before .before .before .before .before .before .before .before .before .before .before .loop .inv .0, c .before .before .before .before .before .before .before .before .before .before .before .before .before .before .before .before .before .before .loop .inv .1, c .before .before .before .before .before .before .before .before .before .before .before .before .before .before .before .before .before .loop-test .taken)
+mul-rests-3 c = omega (arith, c .before .before .before .before .before .before .before .before .before .before .before .before .before .before .before .before .before .loop .inv .0, c .before .before .before .before .before .before .before .before .before .before .before .before .before .before .before .before .before .loop .inv .1, c .before .before .before .before .before .before .before .before .before .before .before .before .before .before .before .before .loop-test .taken)
 
 element-write-rests-3 : tie.Need-element-write-rests-3 Inv-loop μ-loop
-element-write-rests-3 c = omega (arith, c .before .before .before .before .before .before .before .before .before .before .before .before .before .before .before .before .before .before .loop .inv .0, c .before .before .before .before .before .before .before .before .before .before .before .before .before .before .before .before .before .before .loop .inv .1, c .before .before .before .before .before .before .before .before .before .before .before .before .before .before .before .before .before .loop-test .taken)
+element-write-rests-3 c = omega (arith, c .before .before .before .before .before .before .before .before .before .before .before .before .before .before .before .before .before .loop .inv .0, c .before .before .before .before .before .before .before .before .before .before .before .before .before .before .before .before .before .loop .inv .1, c .before .before .before .before .before .before .before .before .before .before .before .before .before .before .before .before .loop-test .taken)
 
 add-m-3 : tie.Need-add-m-3 Inv-loop μ-loop
-add-m-3 c = omega (arith, c .before .before .before .before .before .before .before .before .before .before .before .before .before .before .before .before .before .before .before .loop .inv .0, c .before .before .before .before .before .before .before .before .before .before .before .before .before .before .before .before .before .before .before .loop .inv .1, c .before .before .before .before .before .before .before .before .before .before .before .before .before .before .before .before .before .before .loop-test .taken)
+add-m-3 c = omega (arith, c .before .before .before .before .before .before .before .before .before .before .before .before .before .before .before .before .before .before .loop .inv .0, c .before .before .before .before .before .before .before .before .before .before .before .before .before .before .before .before .before .before .loop .inv .1, c .before .before .before .before .before .before .before .before .before .before .before .before .before .before .before .before .before .loop-test .taken)
 
 mul-m-4 : tie.Need-mul-m-4 Inv-loop μ-loop
-mul-m-4 c = omega (arith, c .before .before .before .before .before .before .before .before .before .before .before .before .before .before .before .before .before .before .before .loop .inv .0, c .before .before .before .before .before .before .before .before .before .before .before .before .before .before .before .before .before .before .before .loop .inv .1, c .before .before .before .before .before .before .before .before .before .before .before .before .before .before .before .before .before .before .loop-test .taken)
+mul-m-4 c = omega (arith, c .before .before .before .before .before .before .before .before .before .before .before .before .before .before .before .before .before .before .loop .inv .0, c .before .before .before .before .before .before .before .before .before .before .before .before .before .before .before .before .before .before .loop .inv .1, c .before .before .before .before .before .before .before .before .before .before .before .before .before .before .before .before .before .loop-test .taken)
 
 element-set-from-m-4 : tie.Need-element-set-from-m-4 Inv-loop μ-loop
-element-set-from-m-4 c = omega (arith, c .before .before .before .before .before .before .before .before .before .before .before .before .before .before .before .before .before .before .before .loop .inv .0, c .before .before .before .before .before .before .before .before .before .before .before .before .before .before .before .before .before .before .before .loop .inv .1, c .before .before .before .before .before .before .before .before .before .before .before .before .before .before .before .before .before .before .loop-test .taken)
+element-set-from-m-4 c = omega (arith, c .before .before .before .before .before .before .before .before .before .before .before .before .before .before .before .before .before .before .loop .inv .0, c .before .before .before .before .before .before .before .before .before .before .before .before .before .before .before .before .before .before .loop .inv .1, c .before .before .before .before .before .before .before .before .before .before .before .before .before .before .before .before .before .loop-test .taken)
 
 add-rests-3 : tie.Need-add-rests-3 Inv-loop μ-loop
-add-rests-3 c = omega (arith, c .before .before .before .before .before .before .before .before .before .before .before .before .before .before .before .before .before .before .before .loop .inv .0, c .before .before .before .before .before .before .before .before .before .before .before .before .before .before .before .before .before .before .before .loop .inv .1, c .before .before .before .before .before .before .before .before .before .before .before .before .before .before .before .before .before .before .loop-test .taken)
+add-rests-3 c = omega (arith, c .before .before .before .before .before .before .before .before .before .before .before .before .before .before .before .before .before .before .loop .inv .0, c .before .before .before .before .before .before .before .before .before .before .before .before .before .before .before .before .before .before .loop .inv .1, c .before .before .before .before .before .before .before .before .before .before .before .before .before .before .before .before .before .loop-test .taken)
 
 mul-rests-4 : tie.Need-mul-rests-4 Inv-loop μ-loop
-mul-rests-4 c = omega (arith, c .before .before .before .before .before .before .before .before .before .before .before .before .before .before .before .before .before .before .before .loop .inv .0, c .before .before .before .before .before .before .before .before .before .before .before .before .before .before .before .before .before .before .before .loop .inv .1, c .before .before .before .before .before .before .before .before .before .before .before .before .before .before .before .before .before .before .loop-test .taken)
+mul-rests-4 c = omega (arith, c .before .before .before .before .before .before .before .before .before .before .before .before .before .before .before .before .before .before .loop .inv .0, c .before .before .before .before .before .before .before .before .before .before .before .before .before .before .before .before .before .before .loop .inv .1, c .before .before .before .before .before .before .before .before .before .before .before .before .before .before .before .before .before .loop-test .taken)
 
 element-write-rests-4 : tie.Need-element-write-rests-4 Inv-loop μ-loop
-element-write-rests-4 c = omega (arith, c .before .before .before .before .before .before .before .before .before .before .before .before .before .before .before .before .before .before .before .loop .inv .0, c .before .before .before .before .before .before .before .before .before .before .before .before .before .before .before .before .before .before .before .loop .inv .1, c .before .before .before .before .before .before .before .before .before .before .before .before .before .before .before .before .before .before .loop-test .taken)
+element-write-rests-4 c = omega (arith, c .before .before .before .before .before .before .before .before .before .before .before .before .before .before .before .before .before .before .loop .inv .0, c .before .before .before .before .before .before .before .before .before .before .before .before .before .before .before .before .before .before .loop .inv .1, c .before .before .before .before .before .before .before .before .before .before .before .before .before .before .before .before .before .loop-test .taken)
 
 add-q : tie.Need-add-q Inv-loop μ-loop
-add-q c = omega (arith, c .before .before .before .before .before .before .before .before .before .before .before .before .before .before .before .before .before .before .before .loop .inv .0, c .before .before .before .before .before .before .before .before .before .before .before .before .before .before .before .before .before .before .before .loop .inv .1, c .before .before .before .before .before .before .before .before .before .before .before .before .before .before .before .before .before .before .loop-test .taken)
+add-q c = omega (arith, c .before .before .before .before .before .before .before .before .before .before .before .before .before .before .before .before .before .before .loop .inv .0, c .before .before .before .before .before .before .before .before .before .before .before .before .before .before .before .before .before .before .loop .inv .1, c .before .before .before .before .before .before .before .before .before .before .before .before .before .before .before .before .before .loop-test .taken)
 
 loop-less : tie.Need-loop-less Inv-loop μ-loop
-loop-less c = omega (arith, c .before .before .before .before .before .before .before .before .before .before .before .before .before .before .before .before .before .before .before .loop .inv .0, c .before .before .before .before .before .before .before .before .before .before .before .before .before .before .before .before .before .before .before .loop .inv .1, c .before .before .before .before .before .before .before .before .before .before .before .before .before .before .before .before .before .before .loop-test .taken)
+loop-less c = omega (arith, c .before .before .before .before .before .before .before .before .before .before .before .before .before .before .before .before .before .before .loop .inv .0, c .before .before .before .before .before .before .before .before .before .before .before .before .before .before .before .before .before .before .loop .inv .1, c .before .before .before .before .before .before .before .before .before .before .before .before .before .before .before .before .before .loop-test .taken)
 
 loop-again : tie.Need-loop-again Inv-loop μ-loop
 unfolding vehicleKm
 loop-again c =
-    let s = c .before .before .before .before .before .before .before .before .before .before .before .before .before .before .before .before .before .before .before .before .before .before .before .before in
-    let i = c .before .before .before .before .before .before .before .before .before .before .before .before .before .before .before .before .before .before .before .loop .inv in
-    let q = c .before .before .before .before .before .before .before .before .before .before .before .before .before .before .before .before .before .before .before .loop .q in
-    let hq : q < 5 = c .before .before .before .before .before .before .before .before .before .before .before .before .before .before .before .before .before .before .loop-test .taken in
+    let s = c .before .before .before .before .before .before .before .before .before .before .before .before .before .before .before .before .before .before .before .before .before .before .before in
+    let i = c .before .before .before .before .before .before .before .before .before .before .before .before .before .before .before .before .before .before .loop .inv in
+    let q = c .before .before .before .before .before .before .before .before .before .before .before .before .before .before .before .before .before .before .loop .q in
+    let hq : q < 5 = c .before .before .before .before .before .before .before .before .before .before .before .before .before .before .before .before .before .loop-test .taken in
     let rec = s .args .rec in
     let run = ofSums (s .args .x .now) (s .args .grams .sums) (s .args .rests .now) in
-    let fuel = c .before .before .before .before .before .before .before .before .before .before .before .before .before .before .before .before .before .before .before .before .before .before .fuel-of .result in
-    let ef : fuel ≡ fuelOf (rec .class) = c .before .before .before .before .before .before .before .before .before .before .before .before .before .before .before .before .before .before .before .before .before .before .fuel-of .ensures in
+    let fuel = c .before .before .before .before .before .before .before .before .before .before .before .before .before .before .before .before .before .before .before .before .before .fuel-of .result in
+    let ef : fuel ≡ fuelOf (rec .class) = c .before .before .before .before .before .before .before .before .before .before .before .before .before .before .before .before .before .before .before .before .before .fuel-of .ensures in
     let hf : fuel ≤ 2 = i .1 in
     let b = fuel * 20 + q * 4 in
-    let v0 : c .before .before .before .before .before .before .before .before .before .before .before .before .before .with-hot .result ≡ slotAfter run rec b = hot-made rec _ (c .before .before .before .before .before .before .before .before .before .before .before .before .before .before .before .before .before .before .before .before .factors-of .ensures) q hq run fuel ef 0 (q * 3) b _ (omega arith) (omega arith) (omega arith) (rw (above-grams (i .2) b (omega arith), i .3 .above b (omega arith)) at (c .before .before .before .before .before .before .before .before .before .before .before .before .before .with-hot .ensures)) in
-    let v1 : c .before .before .before .before .before .before .before .before .before .before .with-hot2 .result ≡ slotAfter run rec (b + 1) = hot-made rec _ (c .before .before .before .before .before .before .before .before .before .before .before .before .before .before .before .before .before .before .before .before .factors-of .ensures) q hq run fuel ef 1 (q * 3 + 1) (b + 1) _ (omega arith) (omega arith) (omega arith) (rw (above-grams (i .2) (b + 1) (omega arith), i .3 .above (b + 1) (omega arith)) at (c .before .before .before .before .before .before .before .before .before .before .with-hot2 .ensures)) in
-    let v2 : c .before .before .before .before .before .before .before .with-hot3 .result ≡ slotAfter run rec (b + 2) = hot-made rec _ (c .before .before .before .before .before .before .before .before .before .before .before .before .before .before .before .before .before .before .before .before .factors-of .ensures) q hq run fuel ef 2 (q * 3 + 2) (b + 2) _ (omega arith) (omega arith) (omega arith) (rw (above-grams (i .2) (b + 2) (omega arith), i .3 .above (b + 2) (omega arith)) at (c .before .before .before .before .before .before .before .with-hot3 .ensures)) in
-    let v3 : c .before .before .before .before .with-cold .result ≡ slotAfter run rec (b + 3) = cold-made rec _ (c .before .before .before .before .before .before .before .before .before .before .before .before .before .before .before .before .before .before .before .before .factors-of .ensures) q hq run fuel ef (b + 3) _ _ (omega arith) (c .before .before .before .before .before .before .before .before .before .before .before .before .before .before .before .before .cold-rate .ensures) (rw (above-grams (i .2) (b + 3) (omega arith), i .3 .above (b + 3) (omega arith)) at (c .before .before .before .before .with-cold .ensures)) in (
+    let v0 : c .before .before .before .before .before .before .before .before .before .before .before .before .before .with-hot .result ≡ slotAfter run rec b = hot-made rec _ (c .before .before .before .before .before .before .before .before .before .before .before .before .before .before .before .before .before .before .before .factors-of .ensures) q hq run fuel ef 0 (q * 3) b _ (omega arith) (omega arith) (omega arith) (rw (above-grams (i .2) b (omega arith), i .3 .above b (omega arith)) at (c .before .before .before .before .before .before .before .before .before .before .before .before .before .with-hot .ensures)) in
+    let v1 : c .before .before .before .before .before .before .before .before .before .before .with-hot2 .result ≡ slotAfter run rec (b + 1) = hot-made rec _ (c .before .before .before .before .before .before .before .before .before .before .before .before .before .before .before .before .before .before .before .factors-of .ensures) q hq run fuel ef 1 (q * 3 + 1) (b + 1) _ (omega arith) (omega arith) (omega arith) (rw (above-grams (i .2) (b + 1) (omega arith), i .3 .above (b + 1) (omega arith)) at (c .before .before .before .before .before .before .before .before .before .before .with-hot2 .ensures)) in
+    let v2 : c .before .before .before .before .before .before .before .with-hot3 .result ≡ slotAfter run rec (b + 2) = hot-made rec _ (c .before .before .before .before .before .before .before .before .before .before .before .before .before .before .before .before .before .before .before .factors-of .ensures) q hq run fuel ef 2 (q * 3 + 2) (b + 2) _ (omega arith) (omega arith) (omega arith) (rw (above-grams (i .2) (b + 2) (omega arith), i .3 .above (b + 2) (omega arith)) at (c .before .before .before .before .before .before .before .with-hot3 .ensures)) in
+    let v3 : c .before .before .before .before .with-cold .result ≡ slotAfter run rec (b + 3) = cold-made rec _ (c .before .before .before .before .before .before .before .before .before .before .before .before .before .before .before .before .before .before .before .factors-of .ensures) q hq run fuel ef (b + 3) _ _ (omega arith) (c .before .before .before .before .before .before .before .before .before .before .before .before .before .before .before .before .cold-rate .ensures) (rw (above-grams (i .2) (b + 3) (omega arith), i .3 .above (b + 3) (omega arith)) at (c .before .before .before .before .with-cold .ensures)) in (
       omega arith,
       hf,
       between-more (b + 3) _ _ (between-more (b + 2) (b + 3) _ (between-more (b + 1) (b + 2) _ (between-more b (b + 1) _ (i .2) (omega arith) (omega arith) (omega arith) (omega arith) (ap (λ s. s .grams) v0)) (omega arith) (omega arith) (omega arith) (omega arith) (ap (λ s. s .grams) v1)) (omega arith) (omega arith) (omega arith) (omega arith) (ap (λ s. s .grams) v2)) (omega arith) (omega arith) (omega arith) (omega arith) (ap (λ s. s .grams) v3),
@@ -301,10 +289,6 @@ sums-with-spec =
     add-highway
     mul-highway-2
     array-read-highway
-    mul-cold-rate
-    add-cold-rate
-    mul-cold-rate-2
-    element-copy-out-cold-rate
     cold-rate-requires
     mul-with-hot
     element-copy-out-with-hot
