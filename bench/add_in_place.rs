@@ -20,11 +20,11 @@ const SLOPES: [[i64; 2]; 15] = [
 const BILLION: u64 = 1_000_000_000;
 
 #[derive(Clone)]
-struct Run { trip: u64, x: [u64; 15], count: u64, km: [u64; 3], grams: [u64; 60], rests: [u64; 60] }
+struct Run { trip: u64, x: [u64; 16], count: u64, km: [u64; 3], grams: [u64; 60], rests: [u64; 60] }
 struct Record { class: u64, vehicles: u64, km: u64, shares: [u64; 3], speeds: [u64; 3] }
 
 fn open(trip: u64, temps: &[i64; 12]) -> Run {
-    let mut x = [0u64; 15];
+    let mut x = [0u64; 16];
     for i in 0..15 {
         let mut sum = 0i64;
         for t in temps {
@@ -33,6 +33,8 @@ fn open(trip: u64, temps: &[i64; 12]) -> Run {
             sum += b * q.max(0);
         }
         x[i] = (sum as u64 + 6_000) / 12_000;
+        // CO of class 3
+        if i == 0 { x[15] = (sum as u64 * 72 + 600_000) / 1_200_000; }
     }
     Run { trip, x, count: 0, km: [0; 3], grams: [0; 60], rests: [0; 60] }
 }
@@ -85,7 +87,8 @@ fn add(run: &mut Run, r: &Record) -> u64 {
             run.grams[j + road] = g;
             run.rests[j + road] = s;
         }
-        let f = if r.class == 5 { 0 } else { (e(0) * run.x[fuel * 5 + q] + 500_000_000) / BILLION };
+        let x = run.x[if r.class == 3 && q == 0 { 15 } else { fuel * 5 + q }];
+        let f = if r.class == 5 { 0 } else { (e(0) * x + 500_000_000) / BILLION };
         let a = k * f;
         let mut s = run.rests[j + 3] + a % 10_000_000 * 100;
         let mut g = run.grams[j + 3] + a / 10_000_000;

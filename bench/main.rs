@@ -5,9 +5,10 @@
 //!     bench [PASSES]
 //!     bench --rows     one pass, as lines `name, archive, (a), (b)` between tabs, for bench/against.py
 //!
-//! With `--cfg layout_1` it is linked with an archive of layout 1, which has no lists and no test of order by itself, and
-//! whose report_sheet answers with the length alone: these rows are left out.
-#[path = "../include/haldurap.rs"]
+//! With `--cfg layout_2` it is linked with an archive of layout 2, in whose runs CO of class 3 has no X of its own: the
+//! declarations are others (bench/run.sh makes them), and what goes by that X is not compared.
+#[cfg_attr(not(layout_2), path = "../include/haldurap.rs")]
+#[cfg_attr(layout_2, path = "../target/haldurap_layout_2.rs")]
 mod haldurap;
 #[path = "../tests/differential/random.rs"]
 mod random;
@@ -134,72 +135,30 @@ fn tuned_open(head: &tuned::Head, run: &mut tuned::Run) -> u64 {
     tuned::open(head, run)
 }
 
-#[cfg(not(layout_1))]
 fn our_sheet(text: &[u8], buffer: &mut [u8]) -> usize {
     c::report_sheet(text, buffer).bytes
 }
 
-#[cfg(layout_1)]
-fn our_sheet(text: &[u8], buffer: &mut [u8]) -> usize {
-    #[allow(clashing_extern_declarations)]
-    unsafe extern "C" {
-        fn haldurap_report_sheet(text: *const u8, text_length: usize, buffer: *mut u8, buffer_length: usize) -> c::LengthAnswer;
-    }
-    unsafe { haldurap_report_sheet(text.as_ptr(), text.len(), buffer.as_mut_ptr(), buffer.len()) }.bytes
-}
-
-#[cfg(not(layout_1))]
 #[inline(never)]
 fn plain_order(run: &plain::Run) -> bool {
     run.in_order()
 }
 
-#[cfg(not(layout_1))]
 #[inline(never)]
 fn tuned_order(run: &tuned::Run) -> bool {
     tuned::in_order(run)
 }
 
-#[cfg(not(layout_1))]
 #[inline(never)]
 fn plain_list(head: &plain::Head, numbers: &[u64]) -> plain::Listed {
     plain::add_list(head, numbers).expect("a list that is taken")
 }
 
-#[cfg(not(layout_1))]
 #[inline(never)]
 fn tuned_list(head: &tuned::Head, numbers: &[u64], run: &mut tuned::Run) -> (u64, u64, usize, u64) {
     *run = tuned::ZERO;
     tuned::add_list(head, numbers, run)
 }
-
-/// The rows that an archive of layout 1 does not have.
-#[cfg(not(layout_1))]
-fn new_rows(best_of: &mut Best, inputs: &Inputs, (ours, a, b): &(c::Run, plain::Run, tuned::Run), repetitions: usize) {
-    let times = best(repetitions, [
-        &mut || { black_box(c::haldurap_in_order(*black_box(ours))); },
-        &mut || { black_box(plain_order(black_box(a))); },
-        &mut || { black_box(tuned_order(black_box(b))); },
-    ]);
-    keep(&mut best_of.order, times);
-
-    let numbers: Vec<u64> = inputs.c_records.iter().flat_map(|r| r.numbers()).collect();
-    let mut run = tuned::ZERO;
-    let listed = c::add_list(inputs.c_heads[0], &numbers);
-    let theirs = plain_list(&inputs.heads[0], &numbers);
-    let tuned = tuned_list(&inputs.tuned_heads[0], &numbers, &mut run);
-    assert!((listed.number, listed.taken, listed.place, listed.refused) == (0, 5000, 0, 0) && listed.run == *ours, "the list differs");
-    assert!((theirs.taken, theirs.refused) == (5000, None) && theirs.run == *a && tuned == (0, 5000, 0, 0) && run == *b, "the lists differ");
-    let times = best(repetitions, [
-        &mut || { let _ = black_box(c::add_list(*black_box(&inputs.c_heads[0]), black_box(&numbers))); },
-        &mut || { black_box(plain_list(black_box(&inputs.heads[0]), black_box(&numbers))); },
-        &mut || { black_box(tuned_list(black_box(&inputs.tuned_heads[0]), black_box(&numbers), black_box(&mut run))); },
-    ]);
-    keep(&mut best_of.list, times.map(|t| t / 5000.0));
-}
-
-#[cfg(layout_1)]
-fn new_rows(_: &mut Best, _: &Inputs, _: &(c::Run, plain::Run, tuned::Run), _: usize) {}
 
 // ---- Measuring
 
@@ -281,6 +240,19 @@ fn adds(inputs: &Inputs, repetitions: usize) -> [[f64; 10]; 3] {
     best
 }
 
+/// Whether three runs are the same; a run of layout 2 has no x[15], and another cold sum of gasoline CO (place 3).
+fn same_runs(ours: &c::Run, a: &plain::Run, b: &tuned::Run) -> bool {
+    let sums = a.sums.as_flattened().as_flattened();
+    let same_sum = |i: usize| (cfg!(layout_2) && i == 3) || (ours.grams[i], ours.rests[i]) == (b.grams[i], b.rests[i]);
+    (ours.trip, &ours.x[..], ours.count, ours.km) == (b.trip, &b.x[..ours.x.len()], b.count, b.km)
+        && (0..60).all(|i| same_sum(i) && sums[i] == plain::Sum { grams: b.grams[i], rest: b.rests[i] })
+}
+
+/// Whether three texts are the same; of an archive of layout 2 only the length.
+fn same_texts(lengths: [usize; 3], ours: &[u8], a: &[u8], b: &[u8]) -> bool {
+    lengths == [lengths[0]; 3] && a == b && (cfg!(layout_2) || ours == a)
+}
+
 /// Full runs of all three, which must be the same run.
 fn full_runs(inputs: &Inputs) -> (c::Run, plain::Run, tuned::Run) {
     let mut ours = c::haldurap_open(inputs.c_heads[0]).run;
@@ -292,9 +264,7 @@ fn full_runs(inputs: &Inputs) -> (c::Run, plain::Run, tuned::Run) {
         ours = answer.run;
         assert_eq!([answer.number, plain_add(&mut a, &inputs.records[i]), tuned_add(&mut b, &inputs.tuned_records[i])], [0; 3]);
     }
-    let sums = a.sums.as_flattened().as_flattened();
-    let same = b == tuned::Run { trip: ours.trip, x: ours.x, count: ours.count, km: ours.km, grams: ours.grams, rests: ours.rests };
-    assert!(same && (0..60).all(|i| sums[i] == plain::Sum { grams: ours.grams[i], rest: ours.rests[i] }), "the three runs differ");
+    assert!(same_runs(&ours, &a, &b), "the three runs differ");
     (ours, a, b)
 }
 
@@ -328,10 +298,8 @@ impl Best {
         rows.push(("total of a full run".into(), self.total));
         rows.push(("report of a full run".into(), self.report));
         rows.push(("opening".into(), self.open));
-        if cfg!(not(layout_1)) {
-            rows.push(("order of a full run".into(), self.order));
-            rows.push(("list of 5,000, each record".into(), self.list));
-        }
+        rows.push(("order of a full run".into(), self.order));
+        rows.push(("list of 5,000, each record".into(), self.list));
         rows
     }
 }
@@ -345,7 +313,7 @@ fn pass(best_of: &mut Best, inputs: &Inputs, runs: &(c::Run, plain::Run, tuned::
         let texts = sheet_texts(inputs, n);
         for text in &texts {
             let lengths = [our_sheet(text, buffer), plain_sheet(text, buffer_a), tuned_sheet(text, buffer_b)];
-            assert!(lengths == [lengths[0]; 3] && buffer == buffer_a && buffer == buffer_b, "sheets differ at {n} records");
+            assert!(same_texts(lengths, buffer, buffer_a, buffer_b), "sheets differ at {n} records");
         }
         let [mut i, mut j, mut k] = [0; 3];
         let times = best(repetitions, [
@@ -369,7 +337,7 @@ fn pass(best_of: &mut Best, inputs: &Inputs, runs: &(c::Run, plain::Run, tuned::
     keep(&mut best_of.total, times.map(|t| t / 15.0));
 
     let lengths = [c::report(*ours, buffer).bytes, plain_report(a, buffer_a), tuned_report(b, buffer_b)];
-    assert!(lengths == [lengths[0]; 3] && buffer == buffer_a && buffer == buffer_b, "the three reports differ");
+    assert!(same_texts(lengths, buffer, buffer_a, buffer_b), "the three reports differ");
     let times = best(repetitions, [
         &mut || { let _ = black_box(c::report(*black_box(ours), black_box(buffer))); },
         &mut || { black_box(plain_report(black_box(a), black_box(buffer_a))); },
@@ -385,7 +353,26 @@ fn pass(best_of: &mut Best, inputs: &Inputs, runs: &(c::Run, plain::Run, tuned::
     ]);
     keep(&mut best_of.open, times.map(|t| t / 64.0));
 
-    new_rows(best_of, inputs, runs, repetitions);
+    let times = best(repetitions, [
+        &mut || { black_box(c::haldurap_in_order(*black_box(ours))); },
+        &mut || { black_box(plain_order(black_box(a))); },
+        &mut || { black_box(tuned_order(black_box(b))); },
+    ]);
+    keep(&mut best_of.order, times);
+
+    let numbers: Vec<u64> = inputs.c_records.iter().flat_map(|r| r.numbers()).collect();
+    let mut run = tuned::ZERO;
+    let listed = c::add_list(inputs.c_heads[0], &numbers);
+    let theirs = plain_list(&inputs.heads[0], &numbers);
+    let tuned = tuned_list(&inputs.tuned_heads[0], &numbers, &mut run);
+    assert!((listed.number, listed.taken, listed.place, listed.refused) == (0, 5000, 0, 0) && listed.run == *ours, "the list differs");
+    assert!((theirs.taken, theirs.refused) == (5000, None) && theirs.run == *a && tuned == (0, 5000, 0, 0) && run == *b, "the lists differ");
+    let times = best(repetitions, [
+        &mut || { let _ = black_box(c::add_list(*black_box(&inputs.c_heads[0]), black_box(&numbers))); },
+        &mut || { black_box(plain_list(black_box(&inputs.heads[0]), black_box(&numbers))); },
+        &mut || { black_box(tuned_list(black_box(&inputs.tuned_heads[0]), black_box(&numbers), black_box(&mut run))); },
+    ]);
+    keep(&mut best_of.list, times.map(|t| t / 5000.0));
 }
 
 fn load() -> String {

@@ -1,8 +1,8 @@
 #!/usr/bin/env bash
 # Times the archive against the plain reference and against the same tuned by hand.
 #   bench/run.sh [PASSES]
-#   bench/run.sh --against ARCHIVE [PASSES]   also against another archive, as that of an earlier commit (its libhaldurap.a or
-#                                             libcapi.a): a program for each, their passes in turn, side by side
+#   bench/run.sh --against ARCHIVE [PASSES]   also against another archive, as that of an earlier commit (its libhaldurap.a):
+#                                             a program for each, their passes in turn, side by side
 set -eu
 cd "$(dirname "$0")/.."
 . tests/archive.sh
@@ -13,8 +13,15 @@ build target/bench "$archive"
 [ "${1:-}" = --against ] || exec target/bench "$@"
 other=$2
 [ -f "$other" ] || { echo "there is no archive $other"; exit 1; }
-layout=
-nm "$other" | grep -q ' T haldurap_add_list$' || layout='--cfg layout_1'
-# shellcheck disable=SC2086
-build target/bench_other "$other" $layout
+# the layout of the other archive, told by itself; a run of layout 2 has 15 values X
+echo '#include <stdio.h>
+#include <haldurap.h>
+int main(void) { printf("%d", (int)haldurap_layout().version); }' | gcc -Iinclude -o target/layout_of -x c - -x none "$other"
+layout=$(target/layout_of)
+case $layout in
+3) build target/bench_other "$other" ;;
+2) sed 's/pub x: \[u64; 16\]/pub x: [u64; 15]/' include/haldurap.rs > target/haldurap_layout_2.rs
+   build target/bench_other "$other" --cfg layout_2 ;;
+*) echo "$other has layout $layout; only 2 and 3 can be compared"; exit 1 ;;
+esac
 exec python3 bench/against.py target/bench_other target/bench "${@:3}"

@@ -5,14 +5,14 @@
 #[derive(Clone, PartialEq)]
 pub struct Run {
     pub trip: u64,
-    pub x: [u64; 15],
+    pub x: [u64; 16],
     pub count: u64,
     pub km: [u64; 3],
     pub grams: [u64; 60],
     pub rests: [u64; 60],
 }
 
-pub const ZERO: Run = Run { trip: 0, x: [0; 15], count: 0, km: [0; 3], grams: [0; 60], rests: [0; 60] };
+pub const ZERO: Run = Run { trip: 0, x: [0; 16], count: 0, km: [0; 3], grams: [0; 60], rests: [0; 60] };
 
 pub struct Head {
     pub trip: u64,
@@ -50,6 +50,13 @@ static RATIOS: [[i64; 2]; 15] = [
 ];
 static FUELS: [usize; 7] = [0, 0, 0, 2, 0, 1, 1];
 
+/// The X of a class (from 0) by quantity: those of its fuel, but CO of class 3 has the last.
+#[inline]
+fn x_of(x: &[u64; 16], class: usize) -> [u64; 5] {
+    let at = FUELS[class] * 5;
+    [if class == 2 { x[15] } else { x[at] }, x[at + 1], x[at + 2], x[at + 3], x[at + 4]]
+}
+
 /// Opens a run in place, which is all zeros before; a refused head leaves it so.
 pub fn open(head: &Head, run: &mut Run) -> u64 {
     if head.trip < 10 || 200 < head.trip {
@@ -72,6 +79,7 @@ pub fn open(head: &Head, run: &mut Run) -> u64 {
     for i in 0..15 {
         run.x[i] = (sums[i] as u64 + 6_000) / 12_000;
     }
+    run.x[15] = (sums[0] as u64 * 72 + 600_000) / 1_200_000;
     run.trip = head.trip;
     0
 }
@@ -164,6 +172,7 @@ fn add_in_order(run: &mut Run, r: &Record) -> u64 {
             }
         }
     } else {
+        let x = x_of(&run.x, class);
         for q in 0..5 {
             let [a, b, c] = CURVES[class][q];
             let e = r.speeds.map(|v| ((a * v as i64 + b) * v as i64 + c) as u64);
@@ -171,7 +180,7 @@ fn add_in_order(run: &mut Run, r: &Record) -> u64 {
                 let low = parts[road].1 * e[road];
                 put(q * 4 + road, parts[road].0 * e[road] + low / BILLION, low % BILLION);
             }
-            let cold = k * ((e[0] * run.x[fuel * 5 + q] + BILLION / 2) / BILLION);
+            let cold = k * ((e[0] * x[q] + BILLION / 2) / BILLION);
             put(q * 4 + 3, cold / 10_000_000, cold % 10_000_000 * 100);
         }
     }

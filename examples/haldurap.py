@@ -15,7 +15,7 @@ import os
 from collections import namedtuple
 from ctypes import POINTER, Structure, c_double, c_int64, c_size_t, c_uint8, c_uint64
 
-LAYOUT = 2
+LAYOUT = 3
 MOST_RECORDS = 5000
 MOST_TEXT = 65536
 LINE_BYTES = 97
@@ -188,7 +188,8 @@ class Record(_Numbers):
 
 
 class Run(_Numbers):
-    _fields_ = [("trip", c_uint64), ("x", _array(c_uint64, 15, "x")), ("count", c_uint64), ("km", _array(c_uint64, 3, "km")),
+    # the last of x is that of CO of class 3
+    _fields_ = [("trip", c_uint64), ("x", _array(c_uint64, 16, "x")), ("count", c_uint64), ("km", _array(c_uint64, 3, "km")),
                 ("grams", _array(c_uint64, 60, "grams")), ("rests", _array(c_uint64, 60, "rests"))]
 
 

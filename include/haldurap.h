@@ -60,7 +60,7 @@ extern "C" {
 #endif
 
 /* The layout that this header describes; haldurap_layout() tells that of the archive. */
-#define HALDURAP_LAYOUT 2
+#define HALDURAP_LAYOUT 3
 
 /* Limits. */
 #define HALDURAP_MOST_RECORDS 5000      /* records in a run */
@@ -129,7 +129,7 @@ typedef struct haldurap_record {
     haldurap_speeds speeds;     /*  48 */
 } haldurap_record;
 
-/* A run: what has been added up under one head. 1,120 bytes.
+/* A run: what has been added up under one head. 1,128 bytes.
    Take it from haldurap_open, haldurap_add, haldurap_add_list and haldurap_sheet, and ask by the calls below.
 
    A run that is not in order gives 16 from every call that takes it, but for haldurap_in_order, which gives 0.
@@ -145,15 +145,16 @@ typedef struct haldurap_record {
    are those of the wrong values. A program that keeps runs in files adds a checksum of its own. */
 typedef struct haldurap_run {
     uint64_t trip;              /*   0  L of the head */
-    uint64_t x[15];             /*   8  cold-start values X, at (fuel - 1) x 5 + quantity - 1 */
-    uint64_t count;             /* 128  records added */
-    uint64_t km[3];             /* 136  vehicle kilometres of each fuel, at fuel - 1 */
-    uint64_t grams[60];         /* 160  whole grams, at (fuel - 1) x 20 + (quantity - 1) x 4 + kind;
+    uint64_t x[16];             /*   8  cold-start values X, at (fuel - 1) x 5 + quantity - 1; the last, x[15], is
+                                        that of CO of class 3 */
+    uint64_t count;             /* 136  records added */
+    uint64_t km[3];             /* 144  vehicle kilometres of each fuel, at fuel - 1 */
+    uint64_t grams[60];         /* 168  whole grams, at (fuel - 1) x 20 + (quantity - 1) x 4 + kind;
                                         kind is 0 urban, 1 rural, 2 highway, 3 cold */
-    uint64_t rests[60];         /* 640  the rest of each sum, billionths of a gram, at the same place */
+    uint64_t rests[60];         /* 648  the rest of each sum, billionths of a gram, at the same place */
 } haldurap_run;
 
-/* A number and a run. 1,128 bytes. */
+/* A number and a run. 1,136 bytes. */
 typedef struct haldurap_run_answer {
     uint64_t number;            /*   0 */
     haldurap_run run;           /*   8 */
@@ -188,7 +189,7 @@ typedef struct haldurap_text_answer {
     size_t sheet_line;          /*  24  the line that decided, from 1, also with 14; 0 for a taken sheet */
 } haldurap_text_answer;
 
-/* What became of a list of records, and the run. 1,152 bytes.
+/* What became of a list of records, and the run. 1,160 bytes.
    number is 0 also where records were refused: refused tells whether one was, taken how many were taken. */
 typedef struct haldurap_list_answer {
     uint64_t number;            /*   0  0, or 10, 1, 2: the list or its head is refused */
@@ -214,7 +215,7 @@ typedef struct haldurap_figure_answer {
     double grams;               /*  16  0.0 where given is 0 */
 } haldurap_figure_answer;
 
-/* A number, its line and the run of a sheet. 1,136 bytes. */
+/* A number, its line and the run of a sheet. 1,144 bytes. */
 typedef struct haldurap_sheet_answer {
     uint64_t number;            /*   0 */
     size_t line;                /*   8  the line that decided, from 1; 0 for a taken sheet */

@@ -7,7 +7,7 @@
 compile_error!("haldurap.rs: the archive is for x86-64 Linux with 64-bit pointers");
 
 /// The layout that this file describes; `haldurap_layout` tells that of the archive.
-pub const LAYOUT: u64 = 2;
+pub const LAYOUT: u64 = 3;
 
 /// Records in a run.
 pub const MOST_RECORDS: u64 = 5000;
@@ -101,9 +101,10 @@ impl Record {
     }
 }
 
+/// The last of `x` is that of CO of class 3.
 #[repr(C)]
 #[derive(Clone, Copy, Debug, PartialEq)]
-pub struct Run { pub trip: u64, pub x: [u64; 15], pub count: u64, pub km: [u64; 3], pub grams: [u64; 60], pub rests: [u64; 60] }
+pub struct Run { pub trip: u64, pub x: [u64; 16], pub count: u64, pub km: [u64; 3], pub grams: [u64; 60], pub rests: [u64; 60] }
 
 #[repr(C)]
 #[must_use]

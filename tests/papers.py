@@ -78,14 +78,18 @@ def cold_starts():
             seen += 1
             same("%s, %s" % (row[0], name), None if cell == "none" else tuple(int(n) for n in cell.split(",")), wanted)
     same("cold starts: 15 ratios", seen, 15)
+    largest = ref.open_run((10, [-300] * 12))[1].x
+    same("cold starts: the largest X", re.findall(r"largest is ([\d,]+), CO of gasoline .*?; that of class 3 is ([\d,]+) there", SECTIONS["Cold starts"]),
+         [("{:,}".format(largest[1, ref.CO]), "{:,}".format(largest[ref.CLASS_3_CO]))])
 
 
 def figures():
-    temps = [100] * 12
-    run = ref.add(ref.open_run((120, temps))[1], (2, 1000, 10000, (40, 40, 20), (20, 60, 100)))[1]
+    run = ref.add(ref.open_run((120, [100] * 12))[1], (2, 1000, 10000, (40, 40, 20), (20, 60, 100)))[1]
+    icy = ref.open_run((10, [-297] * 12))[1]
     k, balanced = ref.balance(run, 1, 1, 1000)[1:]
     co = ref.hot_factor(2, ref.CO, 0, 20)
-    wanted = [ref.cold_share(120, 100)] + [run.x[1, q] for q in (ref.CO, ref.NOX, ref.VOC, ref.FC)]
+    wanted = [ref.cold_share(120, 100)] + [run.x[ref.x_name(cls, q)] for cls in (2, 3) for q in (ref.CO, ref.NOX, ref.VOC, ref.FC)]
+    wanted += [icy.x[ref.x_name(cls, ref.CO)] for cls in (2, 3)]
     wanted += [ref.hot_factor(2, ref.CO, 0, v) for v in (20, 60, 100)] + [ref.cold_factor(co, run.x[1, ref.CO]), k, balanced]
     wanted += [ref.half_up(Fraction(44011000 * 13825400, 12011000 + 1008 * 1800)), ref.half_up(Fraction(3 * 1000000 * 2, 4000000))]
     table = [row for row in rows(SECTIONS["Figures"]) if len(row) == 2][1:]

@@ -115,7 +115,7 @@ def questions(run, wanted, rng):
 
 def runs(rng):
     """Runs of opening, adding and lists, and runs out of order."""
-    same(h.layout(), (h.LAYOUT, 1120), "layout")
+    same(h.layout(), (h.LAYOUT, 1128), "layout")
     fleet = [vectors.some_record(rng) for _ in range(30)]
     fleet[7:7] = [(8, 1, 1, (100, 0, 0), (10, 10, 10)), (2, 10**6, 1001, (40, 40, 20), (20, 60, 100))]
     head = sheets.some_head(rng)
@@ -134,10 +134,10 @@ def runs(rng):
             run = after
             same_run(run, wanted, "add %s" % (record,))
     questions(run, wanted, rng)
-    for field, value in (("trip", 9), ("count", 5001), ("count", 0)):
+    for field, value in (("trip", 9), ("count", 5001), ("count", 0), ("x", [0] * 15 + [4900000001])):
         bad, bad_wanted = h.Run.from_buffer_copy(run), wanted.copy()
         setattr(bad, field, value)
-        setattr(bad_wanted, field, value)
+        setattr(bad_wanted, field, dict(zip(ref.X_NAMES, value)) if field == "x" else value)
         questions(bad, bad_wanted, rng)
         same(outcome(h.add, bad, record_of(fleet[0])), refused(16), "add to a run out of order")
     for trip, temps in ((9, [100] * 12), (120, [100] * 11 + [401]), (2**64 - 1, [-2**63] * 12)):
@@ -286,7 +286,7 @@ def wrong_arguments():
                 values = [1] * len(names)
                 values[place] = value
                 same(outcome(function, run, *values), error(name, said), "%s with %s %r" % (call, name, value))
-        for value in (None, 5, bytes(1120), head):
+        for value in (None, 5, bytes(1128), head):
             same(outcome(function, value, *[1] * len(names)), error("run", "a Run is wanted, %r given" % (value,)), "%s of %r" % (call, value))
     for place, name in ((0, "fuel"), (1, "quantity")):
         for value, said in NOT_NUMBERS:

@@ -36,7 +36,7 @@ fn c_run(run: &plain::Run) -> c::Run {
     let sums = run.sums.as_flattened().as_flattened();
     c::Run {
         trip: run.trip,
-        x: run.x.as_flattened().try_into().unwrap(),
+        x: [run.x.as_flattened(), &[run.x_class_3]].concat().try_into().unwrap(),
         count: run.count,
         km: run.km,
         grams: std::array::from_fn(|i| sums[i].grams),
@@ -45,23 +45,28 @@ fn c_run(run: &plain::Run) -> c::Run {
 }
 
 fn plain_run(run: &c::Run) -> plain::Run {
-    let mut r = plain::Run { trip: run.trip, count: run.count, km: run.km, ..plain::Run::default() };
-    r.x.as_flattened_mut().copy_from_slice(&run.x);
+    let mut r = plain::Run { trip: run.trip, x_class_3: run.x[15], count: run.count, km: run.km, ..plain::Run::default() };
+    r.x.as_flattened_mut().copy_from_slice(&run.x[..15]);
     for (i, sum) in r.sums.as_flattened_mut().as_flattened_mut().iter_mut().enumerate() {
         *sum = plain::Sum { grams: run.grams[i], rest: run.rests[i] };
     }
     r
 }
 
-/// Word i of a run: 0 trip, 1 to 15 x, 16 count, 17 to 19 km, 20 to 79 grams, 80 to 139 rests.
+const WORDS: usize = 141;
+/// Where the grams and the rests begin.
+const GRAMS: usize = 21;
+const RESTS: usize = 81;
+
+/// Word i of a run: 0 trip, 1 to 16 x, 17 count, 18 to 20 km, 21 to 80 grams, 81 to 140 rests.
 fn word(run: &mut c::Run, i: usize) -> &mut u64 {
     match i {
         0 => &mut run.trip,
-        1..=15 => &mut run.x[i - 1],
-        16 => &mut run.count,
-        17..=19 => &mut run.km[i - 17],
-        20..=79 => &mut run.grams[i - 20],
-        _ => &mut run.rests[i - 80],
+        1..=16 => &mut run.x[i - 1],
+        17 => &mut run.count,
+        18..=20 => &mut run.km[i - 18],
+        GRAMS..RESTS => &mut run.grams[i - GRAMS],
+        _ => &mut run.rests[i - RESTS],
     }
 }
 
@@ -69,10 +74,10 @@ fn word(run: &mut c::Run, i: usize) -> &mut u64 {
 fn limit(i: usize, count: u64) -> u64 {
     match i {
         0 => 200,
-        1..=15 => 4_900_000_000,
-        16 => 5000,
-        17..=19 => 1_000_000_000 * count,
-        20..=79 => 1_000_000_000_000 * count,
+        1..=16 => 4_900_000_000,
+        17 => 5000,
+        18..=20 => 1_000_000_000 * count,
+        GRAMS..RESTS => 1_000_000_000_000 * count,
         _ => 999_999_999,
     }
 }
@@ -106,6 +111,8 @@ struct Held {
     not_given: u64,
     buffers: u64,
     out_of_order: u64,
+    /// Adds of classes 3 and 2 beside each other, by season.
+    seasons: [u64; 3],
     /// Records in lists, and the first refused ones by number.
     listed: u64,
     passed_over: [u64; 17],
@@ -123,10 +130,15 @@ impl Held {
             self.tried[call][number as usize] += 1;
         }
         if ours != theirs {
-            self.differences += 1;
-            if self.differences <= 20 {
-                println!("DIFFERENCE in {}: {}\n  archive   {ours:?}\n  reference {theirs:?}", CALLS[call], input());
-            }
+            self.differ(|| format!("in {}: {}\n  archive   {ours:?}\n  reference {theirs:?}", CALLS[call], input()));
+        }
+    }
+
+    /// Counts a difference, and shows the first twenty.
+    fn differ(&mut self, what: impl FnOnce() -> String) {
+        self.differences += 1;
+        if self.differences <= 20 {
+            println!("DIFFERENCE {}", what());
         }
     }
 
@@ -195,8 +207,7 @@ fn ask_list(held: &mut Held, head: &plain::Head, numbers: &[u64]) {
     let input = || format!("{head:?}, {} numbers {:?}", numbers.len(), &numbers[..numbers.len().min(90)]);
     held.same(ADD_LIST, number, c::add_list(c_head(head), numbers), wanted, input);
     if numbers != kept {
-        held.differences += 1;
-        println!("DIFFERENCE: the list was changed");
+        held.differ(|| "the list was changed".into());
     }
 }
 
@@ -283,6 +294,60 @@ fn bad_records() -> [[u64; 9]; 6] {
         record
     };
     [with(0, 8), with(1, 0), with(2, 1_000_000), with(1, 100_001), with(5, 19), with(8, 131)]
+}
+
+// ---- CO of class 3
+
+/// Which X a class and a quantity (from 0) use, as a place in the archive's run.
+fn x_place(class: u64, quantity: usize) -> usize {
+    if class == 3 && quantity == 0 { 15 } else { plain::fuel_of(class) * 5 + quantity }
+}
+
+/// Classes 3 and 2 beside each other under heads of every season, one after the other and as a list.
+fn class_3(held: &mut Held, r: &mut Random, times: u64) {
+    for i in 0..times {
+        let season = i as usize % 3;
+        let head = random::head_of_season(r, season);
+        let (ours, theirs) = open(held, &head).expect("a head in range");
+        let record = random::good_record(r);
+        for classes in [&[3][..], &[2], &[3, 2], &[2, 3, 3]] {
+            let (mut ours, mut theirs) = (ours, theirs.clone());
+            for &class in classes {
+                held.seasons[season] += 1;
+                assert_eq!(add(held, &mut ours, &mut theirs, &plain::Record { class, ..record }), 0);
+            }
+            for quantity in 1..=5 {
+                ask_place(held, ours, &theirs, 1, quantity);
+            }
+        }
+        let records: Vec<u64> = (0..r.from_to(1, 8)).flat_map(|_| numbers(&plain::Record { class: r.of(&[2, 3]), ..random::good_record(r) })).collect();
+        ask_list(held, &head, &records);
+        for place in [0, 15, r.place(16)] {
+            one_x(held, r, ours, place);
+        }
+    }
+}
+
+/// One X of a run changed by hand: whatever the class, an add gives the same run but for that X and the cold sums that go by it.
+fn one_x(held: &mut Held, r: &mut Random, run: c::Run, place: usize) {
+    let mut other = run;
+    other.x[place] = r.of(&[0, 1, 1_000_000_000, 4_899_999_999, 4_900_000_000]);
+    for class in 1..=7 {
+        let record = plain::Record { class, ..random::good_record(r) };
+        let [first, mut second] = [run, other].map(|mut run| {
+            let mut theirs = plain_run(&run);
+            add(held, &mut run, &mut theirs, &record);
+            run
+        });
+        second.x[place] = first.x[place];
+        for quantity in (0..5).filter(|&quantity| class != 5 && x_place(class, quantity) == place) {
+            let sum = plain::fuel_of(class) * 20 + quantity * 4 + plain::COLD;
+            (second.grams[sum], second.rests[sum]) = (first.grams[sum], first.rests[sum]);
+        }
+        if first != second {
+            held.differ(|| format!("x[{place}] moves more than it may in an add of class {class}: {record:?} to {run:?}"));
+        }
+    }
 }
 
 // ---- Questions
@@ -417,8 +482,7 @@ fn ask_out_of_order(held: &mut Held, r: &mut Random, bad: c::Run, what: &dyn Fn(
     let (mut ours, mut theirs) = (bad, run.clone());
     let n = add(held, &mut ours, &mut theirs, &record);
     if n != 16 || ours != bad || theirs != run {
-        held.differences += 1;
-        println!("DIFFERENCE: a run out of order was not given back as it came: {}", what());
+        held.differ(|| format!("a run out of order was not given back as it came: {}", what()));
     }
     ask_place(held, bad, &run, r.from_to(1, 3), r.from_to(1, 5));
     ask_place(held, bad, &run, fuel, quantity);
@@ -431,7 +495,7 @@ fn ask_out_of_order(held: &mut Held, r: &mut Random, bad: c::Run, what: &dyn Fn(
 }
 
 fn out_of_order(held: &mut Held, r: &mut Random, run: &c::Run) {
-    for i in 0..140 {
+    for i in 0..WORDS {
         let most = limit(i, run.count);
         let values = [most + 1, most + 1 + r.scaled(0, 1 << 40), 1 << 63, u64::MAX];
         for value in values.iter().chain(if i == 0 { &[0u64, 9][..] } else { &[][..] }) {
@@ -440,7 +504,7 @@ fn out_of_order(held: &mut Held, r: &mut Random, run: &c::Run) {
             ask_out_of_order(held, r, bad, &|| format!("word {i} is {value}"));
         }
         // a sum at its limit with a rest, and rests of whole sums below
-        if (20..80).contains(&i) {
+        if (GRAMS..RESTS).contains(&i) {
             let mut bad = *run;
             *word(&mut bad, i) = most;
             *word(&mut bad, i + 60) = r.of(&[1, 999_999_999]);
@@ -449,7 +513,7 @@ fn out_of_order(held: &mut Held, r: &mut Random, run: &c::Run) {
         // exactly at the limit: in order, and both sides say so
         let mut edge = *run;
         *word(&mut edge, i) = most;
-        if (20..80).contains(&i) {
+        if (GRAMS..RESTS).contains(&i) {
             *word(&mut edge, i + 60) = 0;
         }
         let edge_run = plain_run(&edge);
@@ -494,8 +558,7 @@ fn ask_sheet(held: &mut Held, r: &mut Random, text: &[u8], edit: usize) {
         held.same(REPORT_SHEET, wanted.number, (a, &buffer), (wanted, &expected), || format!("{length} bytes of buffer, {}", input()));
     }
     if text != kept {
-        held.differences += 1;
-        println!("DIFFERENCE: the text was changed");
+        held.differ(|| "the text was changed".into());
     }
 }
 
@@ -555,7 +618,7 @@ fn printed_numbers(held: &mut Held) {
 ";
     assert_eq!(theirs.report().unwrap(), report);
     assert_eq!(plain::cold_share(120, 100), 29_580_000);
-    assert_eq!(theirs.x[0], [532_440_000, 23_664_000, 354_960_000, 0, 112_404_000]);
+    assert_eq!((theirs.x[0], theirs.x_class_3), ([532_440_000, 23_664_000, 354_960_000, 0, 112_404_000], 383_356_800));
     assert_eq!([20, 60, 100].map(|v| plain::hot_factor(2, 0, 0, v)), [15_095_000, 15_295_000, 34_695_000]);
     assert_eq!(theirs.balance(1, 1, 1000), Ok((1_039_246, 28_197_012)));
     assert_eq!(theirs.balance(1, 1, 481), Err(13));
@@ -572,6 +635,11 @@ fn printed_numbers(held: &mut Held) {
     let mut r = Random(1);
     ask_all(held, &mut r, ours, &theirs);
     ask_sheet(held, &mut r, &sheet, 0);
+    // X of CO of class 3 is of the sum itself: 72/100 of the rounded X would be one more, or one less
+    for (trip, t, gasoline, class_3) in [(10, -297, 4_834_859_126, 3_481_098_570), (11, -75, 2_326_636_406, 1_675_178_213)] {
+        let (_, theirs) = open(held, &plain::Head { trip, temps: [t; 12] }).expect("a head in range");
+        assert_eq!((theirs.x[0][0], theirs.x_class_3), (gasoline, class_3));
+    }
 }
 
 fn main() {
@@ -585,6 +653,7 @@ fn main() {
         not_given: 0,
         buffers: 0,
         out_of_order: 0,
+        seasons: [0; 3],
         listed: 0,
         passed_over: [0; 17],
         texts: [0; 17],
@@ -662,12 +731,15 @@ fn main() {
         out_of_order(&mut held, &mut r, &run);
     }
 
+    class_3(&mut held, &mut r, 9_000 / part);
     sheets(&mut held, &mut r, 205_000 / part);
     lists(&mut held, &mut r, 60_000 / part, small);
 
     println!("runs opened and added to: {runs}, of them full: {full}; runs in order made up: {made}; runs out of order: {}", held.out_of_order);
     println!("adds: {}; sheets: {}; buffers compared whole: {}; figures not given: {}", held.of(ADD), held.of(SHEET), held.buffers, held.not_given);
     println!("lists: {}, with {} records", held.of(ADD_LIST), held.listed);
+    let [warm, cold, mixed] = held.seasons;
+    println!("adds of classes 3 and 2 beside each other: {warm} in warm, {cold} in cold, {mixed} in mixed years");
     println!("\nanswers by number:");
     print!("{:>16}", "");
     (0..=16).for_each(|n| print!("{n:>9}"));

@@ -70,6 +70,23 @@ pub fn good_head(r: &mut Random) -> Head {
     Head { trip, temps: std::array::from_fn(|_| same.unwrap_or_else(|| temperature(r))) }
 }
 
+/// A head by where Q of gasoline CO is 0, which is from 30.0 degrees on: in every month (season 0), in none (1), in some (2).
+pub fn head_of_season(r: &mut Random, season: usize) -> Head {
+    let warm = match season {
+        0 => 12,
+        1 => 0,
+        _ => r.from_to(1, 11) as usize,
+    };
+    let mut temps = std::array::from_fn(|month| match (month < warm, r.one_in(4)) {
+        (true, true) => r.of(&[300, 301, 399, 400]),
+        (true, false) => r.from_to(300, 400) as i64,
+        (false, true) => r.of(&[-300, -299, 298, 299]),
+        (false, false) => r.below(600) as i64 - 300,
+    });
+    temps.rotate_left(r.place(12));
+    Head { trip: r.from_to(10, 200), temps }
+}
+
 /// A head with one or more values that may be out of range.
 pub fn damaged_head(r: &mut Random) -> Head {
     let mut head = good_head(r);
@@ -161,7 +178,7 @@ pub fn any_run_in_order(r: &mut Random) -> Run {
     // Small sums too, so that kinds and totals below a gram and reports with lines left out occur.
     let most = if r.one_in(3) { r.from_to(0, 3).min(count) } else { 1_000_000_000_000 * count };
     let mut run = Run { trip: r.from_to(10, 200), count, ..Run::default() };
-    for x in run.x.iter_mut().flatten() {
+    for x in run.x.iter_mut().flatten().chain([&mut run.x_class_3]) {
         *x = if r.one_in(10) { r.of(&[0, 1, 4_899_999_999, 4_900_000_000]) } else { r.from_to(0, 4_900_000_000) };
     }
     for km in &mut run.km {

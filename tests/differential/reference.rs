@@ -1,7 +1,7 @@
 //! The inventory in plain Rust: ordinary structs, u128 and i128 wherever a product might be large. Written from the
-//! customer's request ("COPERT II inventory core", its document 01, of which docs/SPECIFICATION.md says the same in our own
-//! words); lists of records and the number and line beside a text are from that page itself. Nothing here comes from the
-//! Rattle code. A refusal is its number in the table of refusals. Fuels, quantities and kinds count from 0 inside arrays and from 1 where a caller hands them in.
+//! customer's request ("COPERT II inventory core", its document 01, and job 1 of document 02, of which docs/SPECIFICATION.md
+//! says the same in our own words); lists of records and the number and line beside a text are from that page itself. Nothing
+//! here comes from the Rattle code. A refusal is its number in the table of refusals. Fuels, quantities and kinds count from 0 inside arrays and from 1 where a caller hands them in.
 #![allow(dead_code)]
 
 pub const URBAN: usize = 0;
@@ -9,6 +9,8 @@ pub const RURAL: usize = 1;
 pub const HIGHWAY: usize = 2;
 pub const COLD: usize = 3;
 
+const GASOLINE: usize = 0;
+const CO: usize = 0;
 const PM: usize = 3;
 const FC: usize = 4;
 const NAMES: [&str; 5] = ["CO", "NOX", "VOC", "PM", "FC"];
@@ -55,6 +57,8 @@ pub struct Run {
     pub trip: u64,
     /// X by fuel and quantity.
     pub x: [[u64; 5]; 3],
+    /// X of CO of class 3.
+    pub x_class_3: u64,
     pub count: u64,
     pub km: [u64; 3],
     /// By fuel, quantity and kind.
@@ -147,9 +151,10 @@ fn cold_excess(fuel: usize, quantity: usize, t: i64) -> i128 {
     }
 }
 
-pub fn cold_x(head: &Head, fuel: usize, quantity: usize) -> u64 {
+/// B × Q over the twelve months.
+fn cold_sum(head: &Head, fuel: usize, quantity: usize) -> u128 {
     let sum: i128 = head.temps.iter().map(|&t| cold_share(head.trip, t) * cold_excess(fuel, quantity, t)).sum();
-    half_up(sum as u128, 12_000) as u64
+    sum as u128
 }
 
 // ---- The run
@@ -165,7 +170,11 @@ pub fn open(head: &Head) -> Result<Run, u64> {
     let mut run = Run { trip: head.trip, ..Run::default() };
     for fuel in 0..3 {
         for quantity in 0..5 {
-            run.x[fuel][quantity] = cold_x(head, fuel, quantity);
+            let sum = cold_sum(head, fuel, quantity);
+            run.x[fuel][quantity] = half_up(sum, 12_000) as u64;
+            if (fuel, quantity) == (GASOLINE, CO) {
+                run.x_class_3 = half_up(sum * 72, 1_200_000) as u64;
+            }
         }
     }
     Ok(run)
@@ -227,9 +236,17 @@ impl Run {
             return false;
         }
         let most = 1_000_000_000_000 * BILLION * self.count as u128;
-        self.x.iter().flatten().all(|&x| x <= 4_900_000_000)
+        self.x.iter().flatten().chain([&self.x_class_3]).all(|&x| x <= 4_900_000_000)
             && self.sums.iter().flatten().flatten().all(|s| (s.rest as u128) < BILLION && s.exact() <= most)
             && self.km.iter().all(|&km| km as u128 <= BILLION * self.count as u128)
+    }
+
+    /// X of a class: CO of class 3 has its own, everything else that of the fuel.
+    fn x_of(&self, class: u64, quantity: usize) -> u64 {
+        match (class, quantity) {
+            (3, CO) => self.x_class_3,
+            _ => self.x[fuel_of(class)][quantity],
+        }
     }
 
     /// Adds a record, or refuses with 16, then 3 to 9, and changes nothing.
@@ -246,6 +263,7 @@ impl Run {
         let k = r.vehicles as u128 * r.km as u128;
         let fuel = fuel_of(r.class);
         for quantity in 0..5 {
+            let x = self.x_of(r.class, quantity) as u128;
             let sums = &mut self.sums[fuel][quantity];
             for road in 0..3 {
                 let e = hot_factor(r.class, quantity, road, r.speeds[road]);
@@ -253,7 +271,7 @@ impl Run {
             }
             if r.class != 5 {
                 let e = hot_factor(r.class, quantity, URBAN, r.speeds[URBAN]);
-                let factor = half_up(e * self.x[fuel][quantity] as u128, BILLION);
+                let factor = half_up(e * x, BILLION);
                 sums[COLD] = Sum::of(sums[COLD].exact() + k * factor * 100);
             }
         }

@@ -30,23 +30,23 @@ static void as_documented(void) {
     SIZE(haldurap_speeds, 24), PLACE(haldurap_speeds, urban, 0), PLACE(haldurap_speeds, rural, 8), PLACE(haldurap_speeds, highway, 16);
     SIZE(haldurap_record, 72), PLACE(haldurap_record, vehicle_class, 0), PLACE(haldurap_record, vehicles, 8), PLACE(haldurap_record, km, 16);
     FIELD(haldurap_record, shares, 24, 24), FIELD(haldurap_record, speeds, 48, 24);
-    SIZE(haldurap_run, 1120), PLACE(haldurap_run, trip, 0), FIELD(haldurap_run, x, 8, 120), PLACE(haldurap_run, count, 128);
-    FIELD(haldurap_run, km, 136, 24), FIELD(haldurap_run, grams, 160, 480), FIELD(haldurap_run, rests, 640, 480);
-    SIZE(haldurap_run_answer, 1128), PLACE(haldurap_run_answer, number, 0), FIELD(haldurap_run_answer, run, 8, 1120);
+    SIZE(haldurap_run, 1128), PLACE(haldurap_run, trip, 0), FIELD(haldurap_run, x, 8, 128), PLACE(haldurap_run, count, 136);
+    FIELD(haldurap_run, km, 144, 24), FIELD(haldurap_run, grams, 168, 480), FIELD(haldurap_run, rests, 648, 480);
+    SIZE(haldurap_run_answer, 1136), PLACE(haldurap_run_answer, number, 0), FIELD(haldurap_run_answer, run, 8, 1128);
     SIZE(haldurap_grams_answer, 16), PLACE(haldurap_grams_answer, number, 0), PLACE(haldurap_grams_answer, grams, 8);
     SIZE(haldurap_balance_answer, 24), PLACE(haldurap_balance_answer, number, 0), PLACE(haldurap_balance_answer, k, 8);
     PLACE(haldurap_balance_answer, grams, 16);
     SIZE(haldurap_length_answer, 16), PLACE(haldurap_length_answer, number, 0), PLACE(haldurap_length_answer, bytes, 8);
     SIZE(haldurap_text_answer, 32), PLACE(haldurap_text_answer, number, 0), PLACE(haldurap_text_answer, bytes, 8);
     PLACE(haldurap_text_answer, sheet_number, 16), PLACE(haldurap_text_answer, sheet_line, 24);
-    SIZE(haldurap_list_answer, 1152), PLACE(haldurap_list_answer, number, 0), PLACE(haldurap_list_answer, taken, 8);
-    PLACE(haldurap_list_answer, place, 16), PLACE(haldurap_list_answer, refused, 24), FIELD(haldurap_list_answer, run, 32, 1120);
+    SIZE(haldurap_list_answer, 1160), PLACE(haldurap_list_answer, number, 0), PLACE(haldurap_list_answer, taken, 8);
+    PLACE(haldurap_list_answer, place, 16), PLACE(haldurap_list_answer, refused, 24), FIELD(haldurap_list_answer, run, 32, 1128);
     SIZE(haldurap_map_row_answer, 40), PLACE(haldurap_map_row_answer, number, 0), PLACE(haldurap_map_row_answer, urban, 8);
     PLACE(haldurap_map_row_answer, rural, 16), PLACE(haldurap_map_row_answer, highway, 24), PLACE(haldurap_map_row_answer, cold, 32);
     SIZE(haldurap_figure_answer, 24), PLACE(haldurap_figure_answer, number, 0), PLACE(haldurap_figure_answer, given, 8);
     PLACE(haldurap_figure_answer, grams, 16);
-    SIZE(haldurap_sheet_answer, 1136), PLACE(haldurap_sheet_answer, number, 0), PLACE(haldurap_sheet_answer, line, 8);
-    FIELD(haldurap_sheet_answer, run, 16, 1120);
+    SIZE(haldurap_sheet_answer, 1144), PLACE(haldurap_sheet_answer, number, 0), PLACE(haldurap_sheet_answer, line, 8);
+    FIELD(haldurap_sheet_answer, run, 16, 1128);
     SIZE(haldurap_layout_answer, 16), PLACE(haldurap_layout_answer, version, 0), PLACE(haldurap_layout_answer, size, 8);
 }
 
@@ -144,6 +144,7 @@ static void runs(haldurap_run fresh) {
     typedef haldurap_grams_answer question(haldurap_run, uint64_t, uint64_t);
     static question *const kinds[] = {haldurap_urban, haldurap_rural, haldurap_highway, haldurap_cold};
     static const uint64_t class_of[] = {2, 6, 4};
+    static const int fuel_of[] = {0, 0, 0, 2, 0, 1, 1};
     haldurap_run r;
 #define LIMIT(field, most, i) do { \
         r = fresh, r.count = 3, r.field = most, same(haldurap_total(r, 1, 1).number, 0, "run." #field " at its limit", i); \
@@ -151,7 +152,7 @@ static void runs(haldurap_run fresh) {
     } while (0)
     LIMIT(trip, 200ull, 0);
     LIMIT(count, 5000ull, 0);
-    for (int i = 0; i < 15; i++) LIMIT(x[i], 4900000000ull, i);
+    for (int i = 0; i < 16; i++) LIMIT(x[i], 4900000000ull, i);
     for (int i = 0; i < 3; i++) LIMIT(km[i], 3000000000ull, i);
     for (int i = 0; i < 60; i++) LIMIT(grams[i], 3000000000000ull, i);
     for (int i = 0; i < 60; i++) LIMIT(rests[i], 999999999ull, i);
@@ -162,14 +163,20 @@ static void runs(haldurap_run fresh) {
         for (int j = 0; j < 60; j++)
             same(kinds[j % 4](r, j / 20 + 1, j / 4 % 5 + 1).grams, i == j ? 1001 + (uint64_t)i : 0, "run.grams, run.rests", i);
     }
-    for (int i = 0; i < 15; i++) {
-        /* X of 1: the cold factor is E, so the cold grams are those of the whole distance at the urban speed */
-        haldurap_record all = record;
-        all.vehicle_class = class_of[i / 5], all.shares = (haldurap_shares){100, 0, 0};
-        r = fresh, memset(r.x, 0, sizeof r.x), r.x[i] = 1000000000;
-        haldurap_run_answer a = haldurap_add(r, all);
-        for (int q = 0; q < 5; q++)
-            same(a.run.grams[i / 5 * 20 + q * 4 + 3], q == i % 5 ? a.run.grams[i / 5 * 20 + q * 4] : 0, "run.x", i);
+    for (int i = 0; i < 16; i++) {
+        /* X of 1: the cold factor is E, so the cold grams are those of the whole distance at the urban speed, of each class
+           and quantity whose X this is; the last is that of CO of class 3 and of nothing else, class 5 has none */
+        for (uint64_t class = 1; class <= 7; class++) {
+            haldurap_record all = record;
+            all.vehicle_class = class, all.shares = (haldurap_shares){100, 0, 0};
+            r = fresh, memset(r.x, 0, sizeof r.x), r.x[i] = 1000000000;
+            haldurap_run_answer a = haldurap_add(r, all);
+            for (int q = 0; q < 5; q++) {
+                const uint64_t *sums = a.run.grams + fuel_of[class - 1] * 20 + q * 4;
+                int place = class == 3 && q == 0 ? 15 : fuel_of[class - 1] * 5 + q;
+                same(sums[3], class != 5 && place == i ? sums[0] : 0, "run.x", i);
+            }
+        }
     }
     for (int f = 0; f < 3; f++) {
         haldurap_record one = record;
@@ -186,6 +193,7 @@ static void answers(haldurap_run run) {
     static const uint64_t x[] = {532440000, 23664000, 354960000, 0, 112404000};
     same(a.number, 0, "run_answer.number", 0), same(a.run.trip, 120, "run_answer.run.trip", 0), same(a.run.count, 0, "run_answer.run.count", 0);
     for (int i = 0; i < 5; i++) same(a.run.x[i], x[i], "run_answer.run.x", i);
+    same(a.run.x[15], 383356800, "run_answer.run.x", 15);
     same(haldurap_add(run, (haldurap_record){0}).number, HALDURAP_CLASS, "run_answer.number", 1);
     haldurap_grams_answer g = haldurap_total(run, 1, 1);
     same(g.number, 0, "grams_answer.number", 0), same(g.grams, 27132182, "grams_answer.grams", 0);
@@ -286,7 +294,7 @@ static void lists(haldurap_run run) {
 /* In order, and each word out of it. */
 static void orders(haldurap_run run) {
     same(haldurap_in_order(run), 1, "in_order", 0), same(haldurap_in_order(haldurap_open(head).run), 1, "in_order", 1);
-    for (int i = 0; i < 140; i++) {
+    for (int i = 0; i < 141; i++) {
         haldurap_run bad = run;
         ((uint64_t *)&bad)[i] |= 1ull << 63;
         same(haldurap_in_order(bad), 0, "in_order of a damaged word", i);

@@ -27,16 +27,16 @@ DOCUMENTED = {
     h.Shares: (24, {"urban": 0, "rural": 8, "highway": 16}),
     h.Speeds: (24, {"urban": 0, "rural": 8, "highway": 16}),
     h.Record: (72, {"vehicle_class": 0, "vehicles": 8, "km": 16, "shares": 24, "speeds": 48}),
-    h.Run: (1120, {"trip": 0, "x": 8, "count": 128, "km": 136, "grams": 160, "rests": 640}),
-    h.RunAnswer: (1128, {"number": 0, "run": 8}),
+    h.Run: (1128, {"trip": 0, "x": 8, "count": 136, "km": 144, "grams": 168, "rests": 648}),
+    h.RunAnswer: (1136, {"number": 0, "run": 8}),
     h.GramsAnswer: (16, {"number": 0, "grams": 8}),
     h.BalanceAnswer: (24, {"number": 0, "k": 8, "grams": 16}),
     h.LengthAnswer: (16, {"number": 0, "bytes": 8}),
     h.TextAnswer: (32, {"number": 0, "bytes": 8, "sheet_number": 16, "sheet_line": 24}),
-    h.ListAnswer: (1152, {"number": 0, "taken": 8, "place": 16, "refused": 24, "run": 32}),
+    h.ListAnswer: (1160, {"number": 0, "taken": 8, "place": 16, "refused": 24, "run": 32}),
     h.MapRowAnswer: (40, {"number": 0, "urban": 8, "rural": 16, "highway": 24, "cold": 32}),
     h.FigureAnswer: (24, {"number": 0, "given": 8, "grams": 16}),
-    h.SheetAnswer: (1136, {"number": 0, "line": 8, "run": 16}),
+    h.SheetAnswer: (1144, {"number": 0, "line": 8, "run": 16}),
     h.LayoutAnswer: (16, {"version": 0, "size": 8}),
 }
 
@@ -117,7 +117,7 @@ def runs(fresh):
 
     limit("trip", 200)
     limit("count", 5000)
-    limit("x", 4900000000, 15)
+    limit("x", 4900000000, 16)
     limit("km", 3000000000, 3)
     limit("grams", 3000000000000, 60)
     limit("rests", 999999999, 60)
@@ -127,21 +127,23 @@ def runs(fresh):
         run = changed(fresh, grams=(i, 1000 + i), rests=(i, 500000000))
         printed = [kinds[j % 4](run, j // 20 + 1, j // 4 % 5 + 1).grams for j in range(60)]
         same(printed, [1001 + i if i == j else 0 for j in range(60)], "Run.grams, Run.rests")
-    classes = (2, 6, 4)
-    for i in range(15):
-        # X of 1: the cold factor is E, so the cold grams are those of the whole distance at the urban speed
-        run = changed(fresh, x=(i, 1000000000))
-        for j in range(15):
-            if j != i:
-                run.x[j] = 0
-        after = add(run, record(vehicle_class=classes[i // 5], shares=(100, 0, 0))).run
-        for q in range(5):
-            at = i // 5 * 20 + q * 4
-            same(after.grams[at + 3], after.grams[at] if q == i % 5 else 0, "Run.x")
-    for fuel in range(3):
+    fuels = {1: 0, 2: 0, 3: 0, 4: 2, 5: 0, 6: 1, 7: 1}
+    for i in range(16):
+        # X of 1: the cold factor is E, so the cold grams are those of the whole distance at the urban speed, of each class and
+        # quantity whose X this is; the last is that of CO of class 3 and of nothing else, class 5 has none
+        run = changed(fresh)
+        run.x[:] = [1000000000 if i == j else 0 for j in range(16)]
+        for vehicle_class, fuel in fuels.items():
+            after = add(run, record(vehicle_class=vehicle_class, shares=(100, 0, 0))).run
+            for q in range(5):
+                at = fuel * 20 + q * 4
+                place = None if vehicle_class == 5 else 15 if (vehicle_class, q) == (3, 0) else fuel * 5 + q
+                same(after.grams[at + 3], after.grams[at] if place == i else 0, "Run.x")
+    for vehicle_class in (2, 6, 4):
+        fuel = fuels[vehicle_class]
         run = changed(fresh, count=7)
         run.km[:] = [1, 2, 3]
-        after = add(run, record(vehicle_class=classes[fuel])).run
+        after = add(run, record(vehicle_class=vehicle_class)).run
         same((after.count, list(after.km)), (8, [g + 1 + (10000000 if g == fuel else 0) for g in range(3)]), "Run.count, Run.km")
 
 
@@ -152,6 +154,7 @@ def fields(answer):
 def answers(run):
     a = h._call("open")(head())
     same((a.number, a.run.trip, a.run.count, a.run.x[:5]), (0, 120, 0, [532440000, 23664000, 354960000, 0, 112404000]), "RunAnswer")
+    same(a.run.x[15], 383356800, "RunAnswer")
     same(fields(h._call("total")(run, 1, 1)), (0, 27132182), "GramsAnswer")
     same(fields(h._call("total")(run, 4, 1)), (11, 0), "GramsAnswer")
     same(fields(h._call("balance")(run, 1, 1, 1000)), (0, 1039246, 28197012), "BalanceAnswer")
@@ -170,7 +173,7 @@ def answers(run):
     a = h._call("sheet")(h._bytes("text", text)[0], 107)
     same((a.number, a.line, bytes(a.run)), (0, 0, bytes(run)), "SheetAnswer")
     a = h._call("sheet")(*h._bytes("text", text))
-    same((a.number, a.line, bytes(a.run)), (3, 3, bytes(1120)), "SheetAnswer")
+    same((a.number, a.line, bytes(a.run)), (3, 3, bytes(1128)), "SheetAnswer")
     same(h.report_sheet(text), (b"REFUSED  3     3\n", 3, 3), "report_sheet")
     for length, room, wanted in ((107, 388, (0, 388, 0, 0)), (107, 387, (14, 0, 0, 0)), (148, 17, (0, 17, 3, 3)), (148, 16, (14, 0, 3, 3)),
                                  (0, 17, (0, 17, 10, 1)), (66, 0, (0, 0, 0, 0))):
@@ -189,9 +192,9 @@ def lists(fresh, run):
     same(added([]), (0, 0, 0, 0, bytes(fresh)), "ListAnswer")
     for length in range(1, 9):
         for a_head in (head(), h.head(9, [100] * 12)):
-            same(added(numbers[:length], a_head), (10, 0, 0, 0, bytes(1120)), "ListAnswer")
-    same(added(numbers, h.head(9, [100] * 12)), (1, 0, 0, 0, bytes(1120)), "ListAnswer")
-    same(added(numbers, h.head(120, [401] * 12)), (2, 0, 0, 0, bytes(1120)), "ListAnswer")
+            same(added(numbers[:length], a_head), (10, 0, 0, 0, bytes(1128)), "ListAnswer")
+    same(added(numbers, h.head(9, [100] * 12)), (1, 0, 0, 0, bytes(1128)), "ListAnswer")
+    same(added(numbers, h.head(120, [401] * 12)), (2, 0, 0, 0, bytes(1128)), "ListAnswer")
     four = h._call("add_list")(head(), (c_uint64 * 36)(*numbers * 4), 36).run
     for i, why in enumerate((3, 4, 5, 7, 7, 7, 8, 8, 8)):
         # a number beyond its limit, in each of the nine places of the third record
@@ -203,7 +206,7 @@ def lists(fresh, run):
 def orders(fresh, run):
     """In order, and each word out of it."""
     same((h.in_order(fresh), h.in_order(run), h.in_order(h.Run())), (True, True, False), "in_order")
-    for i in range(140):
+    for i in range(141):
         data = bytearray(run)
         data[8 * i + 7] |= 128
         same(h._call("in_order")(h.Run.from_buffer_copy(data)), 0, "in_order of a damaged word")

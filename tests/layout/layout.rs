@@ -29,7 +29,7 @@ const RECORD: Record = Record {
     speeds: Speeds { urban: 20, rural: 60, highway: 100 },
 };
 
-const ZEROS: Run = Run { trip: 0, x: [0; 15], count: 0, km: [0; 3], grams: [0; 60], rests: [0; 60] };
+const ZEROS: Run = Run { trip: 0, x: [0; 16], count: 0, km: [0; 3], grams: [0; 60], rests: [0; 60] };
 
 macro_rules! struct_is {
     ($c:ident, $type:ident, $size:expr, $($field:ident $offset:expr),*) => {
@@ -50,16 +50,16 @@ fn as_documented(c: &mut Check) {
     struct_is!(c, Shares, 24, urban 0, rural 8, highway 16);
     struct_is!(c, Speeds, 24, urban 0, rural 8, highway 16);
     struct_is!(c, Record, 72, class 0, vehicles 8, km 16, shares 24, speeds 48);
-    struct_is!(c, Run, 1120, trip 0, x 8, count 128, km 136, grams 160, rests 640);
-    struct_is!(c, RunAnswer, 1128, number 0, run 8);
+    struct_is!(c, Run, 1128, trip 0, x 8, count 136, km 144, grams 168, rests 648);
+    struct_is!(c, RunAnswer, 1136, number 0, run 8);
     struct_is!(c, GramsAnswer, 16, number 0, grams 8);
     struct_is!(c, BalanceAnswer, 24, number 0, k 8, grams 16);
     struct_is!(c, LengthAnswer, 16, number 0, bytes 8);
     struct_is!(c, TextAnswer, 32, number 0, bytes 8, sheet_number 16, sheet_line 24);
-    struct_is!(c, ListAnswer, 1152, number 0, taken 8, place 16, refused 24, run 32);
+    struct_is!(c, ListAnswer, 1160, number 0, taken 8, place 16, refused 24, run 32);
     struct_is!(c, MapRowAnswer, 40, number 0, urban 8, rural 16, highway 24, cold 32);
     struct_is!(c, FigureAnswer, 24, number 0, given 8, grams 16);
-    struct_is!(c, SheetAnswer, 1136, number 0, line 8, run 16);
+    struct_is!(c, SheetAnswer, 1144, number 0, line 8, run 16);
     struct_is!(c, LayoutAnswer, 16, version 0, size 8);
 }
 
@@ -164,7 +164,7 @@ fn runs(c: &mut Check, fresh: Run) {
     };
     limit("Run.trip", 200, &|r| &mut r.trip);
     limit("Run.count", 5000, &|r| &mut r.count);
-    (0..15).for_each(|i| limit("Run.x", 4_900_000_000, &|r| &mut r.x[i]));
+    (0..16).for_each(|i| limit("Run.x", 4_900_000_000, &|r| &mut r.x[i]));
     (0..3).for_each(|i| limit("Run.km", 3_000_000_000, &|r| &mut r.km[i]));
     (0..60).for_each(|i| limit("Run.grams", 3_000_000_000_000, &|r| &mut r.grams[i]));
     (0..60).for_each(|i| limit("Run.rests", 999_999_999, &|r| &mut r.rests[i]));
@@ -178,22 +178,24 @@ fn runs(c: &mut Check, fresh: Run) {
             c.same(printed, if i == j { 1001 + i } else { 0 }, "Run.grams, Run.rests");
         }
     }
-    let class_of = [2, 6, 4];
-    for i in 0..15 {
-        // X of 1: the cold factor is E, so the cold grams are those of the whole distance at the urban speed
-        let (fuel, quantity) = (i / 5, i % 5);
-        let record = Record { class: class_of[fuel], shares: Shares { urban: 100, rural: 0, highway: 0 }, ..RECORD };
-        let mut run = Run { x: [0; 15], ..fresh };
+    for i in 0..16 {
+        // X of 1: the cold factor is E, so the cold grams are those of the whole distance at the urban speed, of each class and
+        // quantity whose X this is; the last is that of CO of class 3 and of nothing else, class 5 has none
+        let mut run = Run { x: [0; 16], ..fresh };
         run.x[i] = 1_000_000_000;
-        let after = haldurap_add(run, record).run;
-        for q in 0..5 {
-            let at = fuel * 20 + q * 4;
-            c.same(after.grams[at + 3], if q == quantity { after.grams[at] } else { 0 }, "Run.x");
+        for (class, fuel) in (1..).zip([0, 0, 0, 2, 0, 1, 1]) {
+            let record = Record { class, shares: Shares { urban: 100, rural: 0, highway: 0 }, ..RECORD };
+            let after = haldurap_add(run, record).run;
+            for q in 0..5 {
+                let at = fuel * 20 + q * 4;
+                let place = if class == 3 && q == 0 { 15 } else { fuel * 5 + q };
+                c.same(after.grams[at + 3], if class != 5 && place == i { after.grams[at] } else { 0 }, "Run.x");
+            }
         }
     }
-    for fuel in 0..3 {
+    for (fuel, class) in [2, 6, 4].into_iter().enumerate() {
         let run = Run { count: 7, km: [1, 2, 3], ..fresh };
-        let after = haldurap_add(run, Record { class: class_of[fuel], ..RECORD }).run;
+        let after = haldurap_add(run, Record { class, ..RECORD }).run;
         let mut km = [1, 2, 3];
         km[fuel] += 10_000_000;
         c.same((after.count, after.km), (8, km), "Run.count, Run.km");
@@ -204,6 +206,7 @@ fn answers(c: &mut Check, run: Run) {
     let a = haldurap_open(HEAD);
     let x: [u64; 5] = a.run.x[..5].try_into().unwrap();
     c.same((a.number, a.run.trip, a.run.count, x), (0, 120, 0, [532_440_000, 23_664_000, 354_960_000, 0, 112_404_000]), "RunAnswer");
+    c.same(a.run.x[15], 383_356_800, "RunAnswer");
     c.same(haldurap_total(run, 1, 1), GramsAnswer { number: 0, grams: 27_132_182 }, "GramsAnswer");
     c.same(haldurap_total(run, 4, 1), GramsAnswer { number: 11, grams: 0 }, "GramsAnswer");
     c.same(haldurap_balance(run, 1, 1, 1000), BalanceAnswer { number: 0, k: 1_039_246, grams: 28_197_012 }, "BalanceAnswer");
@@ -277,10 +280,10 @@ fn lists(c: &mut Check, fresh: Run, run: Run) {
 /// In order, and each word out of it.
 fn orders(c: &mut Check, fresh: Run, run: Run) {
     c.same((in_order(fresh), in_order(run), in_order(ZEROS)), (true, true, false), "in_order");
-    for i in 0..140 {
-        let mut words: [u64; 140] = unsafe { transmute(run) };
+    for i in 0..141 {
+        let mut words: [u64; 141] = unsafe { transmute(run) };
         words[i] |= 1 << 63;
-        c.same(haldurap_in_order(unsafe { transmute::<[u64; 140], Run>(words) }), 0, "in_order of a damaged word");
+        c.same(haldurap_in_order(unsafe { transmute::<[u64; 141], Run>(words) }), 0, "in_order of a damaged word");
     }
 }
 

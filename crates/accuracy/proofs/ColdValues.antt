@@ -44,6 +44,7 @@ pub cold-values : ColdValuesClaim
 unfolding partAt partOf coldPart
 cold-values =
     record {
+      positive = λ head class quantity. lit< tt;
       rounded = rounded;
       class-3 = λ head. rounded head 3 0 (lit< tt) ∙ ap (λ f. halfUp (f .numerator) 1200000) (own-exact head);
       exact-class-3 = own-exact;

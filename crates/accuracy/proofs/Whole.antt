@@ -4,6 +4,7 @@ use mathlib.Core.Bool.{true}
 use mathlib.Core.List.{List}
 use Prim.Native.Nat.{ℕ, _+_, _-_, _<_}
 use native.Mathlib.Omega.{arith}
+use lib.Dec.{lit<}
 use Rattle.units.specs.Grounds.{firstFit}
 use Rattle.units.specs.Fractions.{WithinDistance}
 use Rattle.units.proofs.Tab.{tab-at}
@@ -83,6 +84,7 @@ module _ (head : Head) (taken : openNumber head ≡ 0) where
         balances = balances (runAfter (openRun head) recs) (ordered recs);
         count = counted recs;
         km = λ fuel f. rw (after recs, reference-km head recs fuel) (km-closed (head .trip) (headX head) (accepted recs) fuel f);
+        positive = λ fuel quantity. rw (reference-exact head recs fuel quantity) (lit< tt);
         near = near recs;
       }
 

@@ -48,7 +48,8 @@ pub record ListClaim (run : Run) (reference : Reference) : Type 0 where
   -- count and kilometres are the reference's
   pub count : run .count ≡ reference .count
   pub km : (fuel : ℕ) → fuel < 3 → kmIn run fuel ≡ reference .km fuel
-  -- each total that is asked for is within the allowed distance of the exact sum
+  -- each total that is asked for is within the allowed distance of the exact sum, a fraction over a positive denominator
+  pub positive : (fuel quantity : ℕ) → 0 < reference .exact fuel quantity .denominator
   pub near : (fuel quantity : ℕ) → fuel < 3 → quantity < 5
       → WithinDistance (totalOf run (fuel + 1) (quantity + 1) .grams) (reference .exact fuel quantity) (allowance (reference .km fuel))
 

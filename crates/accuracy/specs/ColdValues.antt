@@ -27,7 +27,8 @@ abbrev pub Other : ℕ → ℕ → Type 0
 Other class quantity = class ≡ 3 → quantity ≡ 0 → ⊥
 
 pub record ColdValuesClaim : Type 0 where
-  -- X is the unrounded X, half up, rounded once
+  -- the unrounded X is a fraction over a positive denominator; X is that fraction, half up, rounded once
+  pub positive : (head : Head) (class quantity : ℕ) → 0 < exactX head class quantity .denominator
   pub rounded : (head : Head) (class quantity : ℕ) → quantity < 5
       → xOf head class quantity ≡ halfUp (exactX head class quantity .numerator) (exactX head class quantity .denominator)
   -- CO of class 3 has its own: the sum of B × Q times 72, over 1,200,000
