@@ -89,7 +89,7 @@ def figures():
     k, balanced = ref.balance(run, 1, 1, 1000)[1:]
     co = ref.hot_factor(2, ref.CO, 0, 20)
     wanted = [ref.cold_share(120, 100)] + [run.x[ref.x_name(cls, q)] for cls in (2, 3) for q in (ref.CO, ref.NOX, ref.VOC, ref.FC)]
-    wanted += [icy.x[ref.x_name(cls, ref.CO)] for cls in (2, 3)]
+    wanted += [icy.x[ref.x_name(cls, ref.CO)] for cls in (2, 3)] + [ref.half_up(Fraction(icy.x[ref.x_name(2, ref.CO)] * 72, 100))]
     wanted += [ref.hot_factor(2, ref.CO, 0, v) for v in (20, 60, 100)] + [ref.cold_factor(co, run.x[1, ref.CO]), k, balanced]
     wanted += [ref.half_up(Fraction(44011000 * 13825400, 12011000 + 1008 * 1800)), ref.half_up(Fraction(3 * 1000000 * 2, 4000000))]
     table = [row for row in rows(SECTIONS["Figures"]) if len(row) == 2][1:]

@@ -7,7 +7,7 @@ use Prim.Native.Nat.{ℕ, _+_, _/_, _%_, _≤_, _<_}
 use native.Mathlib.Omega.{arith}
 use borrow.Author.Tests.{ltb-true}
 use lib.Dec.{eqb, ltb, lit≤}
-use lib.ListN.{length, getD, length-append}
+use lib.ListN.{length, length-append}
 use Rattle.units.specs.declared.Grams.{Grams}
 use Rattle.units.specs.declared.VehicleKm.{VehicleKm}
 use Rattle.units.specs.Lists.{tab}

@@ -1,24 +1,27 @@
--- X by class and quantity, rounded and unrounded. Assumes nothing.
-use mathlib.Core.Path.{_≡_, refl, sym, ap, _∙_}
+-- X by class and quantity, rounded and unrounded, and what goes by the X of CO of class 3. Assumes nothing.
+use mathlib.Core.Path.{_≡_, refl, ap, _∙_}
 use mathlib.Core.Bool.{Bool, true, false, cond}
-use mathlib.Core.List.{List}
+use mathlib.Core.List.{List, [], _∷_}
 use Prim.Native.Nat.{ℕ, _+_, _*_, _/_, _%_, _<_}
 use native.Mathlib.Omega.{arith}
-use lib.Dec.{lit<}
-use lib.ListN.{getD}
+use borrow.Author.Tests.{eqb-true, ltb-false}
+use lib.Dec.{eqb, ltb, lit<}
 use Rattle.units.specs.Fractions.{over}
 use Rattle.units.specs.Rounding.{halfUp}
-use Rattle.classes.specs.Classes.{fuelOf, hasOwnX, betaReduction, xPlace}
+use Rattle.classes.specs.Classes.{fuelOf, hasOwnX, betaReduction}
 use Rattle.classes.proofs.Classes.{fuel-below, fuel-3, other-place, other-whole}
 use Rattle.inventory.specs.declared.Head.{Head}
 use Rattle.inventory.specs.declared.Record.{Record}
 use Rattle.inventory.specs.Opening.{emptyRun, freshRun}
-use Rattle.inventory.specs.Adding.{coldRate, coldPart, partOf, partAt}
-use Rattle.accuracy.specs.Reference.{exactX}
-use Rattle.accuracy.specs.ColdValues.{xOf, coldSumOf, Other, ColdValuesClaim}
+use Rattle.inventory.specs.Adding.{billionths, coldRate, hotPart, coldPart, partOf, partAt}
+use Rattle.accuracy.specs.Reference.{coldSumOf, exactX, hasRoom, accepts, acceptedFrom, accepted}
+use Rattle.accuracy.specs.Claim.{runAfter}
+use Rattle.accuracy.specs.ColdValues.{openedX, NotCoOfClass3, SameFifteen, WithoutClass3, withX, ColdValuesClaim}
+use Rattle.accuracy.proofs.Sums.{tab-alike, sumOf}
 use Rattle.accuracy.proofs.OneRecord.{x-rounded}
+use Rattle.accuracy.proofs.Closed.{HeadLimits, slotSum, gramsOf, restOf, closed, run-closed}
 
-rounded : (head : Head) (class quantity : ℕ) → quantity < 5 → xOf head class quantity ≡ halfUp (exactX head class quantity .numerator) 1200000
+rounded : (head : Head) (class quantity : ℕ) → quantity < 5 → openedX head class quantity ≡ halfUp (exactX head class quantity .numerator) 1200000
 unfolding freshRun emptyRun
 rounded head class quantity q = x-rounded head class quantity q
 
@@ -26,7 +29,8 @@ own-exact : (head : Head) → exactX head 3 0 ≡ over (coldSumOf head 0 0 * 72)
 unfolding betaReduction hasOwnX fuelOf
 own-exact head = refl
 
-other-exact : (head : Head) (class quantity : ℕ) → Other class quantity → exactX head class quantity ≡ over (coldSumOf head (fuelOf class) quantity * 100) 1200000
+other-exact : (head : Head) (class quantity : ℕ) → NotCoOfClass3 class quantity
+    → exactX head class quantity ≡ over (coldSumOf head (fuelOf class) quantity * 100) 1200000
 other-exact head class quantity o = rw (other-whole class quantity o)
 
 -- 100 times a sum over 100 times its denominator is rounded alike
@@ -34,18 +38,63 @@ hundred : (s : ℕ) → halfUp (s * 100) 1200000 ≡ halfUp s 12000
 unfolding halfUp
 hundred s = omega arith
 
-same-rate : (xs ys : List ℕ) → ((i : ℕ) → i < 15 → getD xs i 0 ≡ getD ys i 0) → (rec : Record) (quantity : ℕ) → quantity < 5
-    → Other (rec .class) quantity → coldRate xs rec quantity ≡ coldRate ys rec quantity
-unfolding coldRate
-same-rate xs ys same rec quantity q o =
-    rw (other-place (rec .class) quantity o, same (fuelOf (rec .class) * 5 + quantity) (omega (arith, fuel-below (rec .class))))
+-- ---- what goes by the last X
+
+module _ (xs ys : List ℕ) (same : SameFifteen xs ys) where
+  same-rate : (rec : Record) (quantity : ℕ) → quantity < 5 → NotCoOfClass3 (rec .class) quantity → coldRate xs rec quantity ≡ coldRate ys rec quantity
+  unfolding coldRate
+  same-rate rec quantity q o =
+      rw (other-place (rec .class) quantity o, same (fuelOf (rec .class) * 5 + quantity) (omega (arith, fuel-below (rec .class))))
+
+  -- own and hot say whether the sum is of the record's fuel, and whether it is of a road
+  same-by : (rec : Record) (j : ℕ) (own hot : Bool) → j < 60 → eqb (j / 20) (fuelOf (rec .class)) ≡ own → ltb (j % 4) 3 ≡ hot
+      → (rec .class ≡ 3 → j ≡ 3 → ⊥)
+      → cond own (cond hot (hotPart rec (j % 20 / 4) (j % 4)) (coldPart xs rec (j % 20 / 4))) 0
+      ≡ cond own (cond hot (hotPart rec (j % 20 / 4) (j % 4)) (coldPart ys rec (j % 20 / 4))) 0
+  unfolding coldPart
+  same-by rec j false hot h eo eh o = refl
+  same-by rec j true true h eo eh o = refl
+  same-by rec j true false h eo eh o =
+      let other : NotCoOfClass3 (rec .class) (j % 20 / 4) =
+      λ c q. o c (omega (arith, eqb-true (j / 20) (fuelOf (rec .class)) eo, ap fuelOf c ∙ fuel-3, ltb-false (j % 4) 3 eh)) in
+      rw (same-rate rec (j % 20 / 4) (omega arith) other)
+
+  same-part : (rec : Record) (j : ℕ) → j < 60 → (rec .class ≡ 3 → j ≡ 3 → ⊥) → partAt xs rec j ≡ partAt ys rec j
+  unfolding partAt partOf
+  same-part rec j h o = same-by rec j (eqb (j / 20) (fuelOf (rec .class))) (ltb (j % 4) 3) h refl refl o
+
+  same-slot : (l : List Record) → WithoutClass3 l → (j : ℕ) → j < 60 → slotSum ys l j ≡ slotSum xs l j
+  unfolding slotSum sumOf
+  same-slot [] w j h = refl
+  same-slot (rec ∷ l) w j h = rw (same-part rec j h (λ c z. w .0 c), same-slot l (w .1) j h)
+
+  same-closed : (trip : ℕ) (l : List Record) → WithoutClass3 l → closed trip ys l ≡ withX ys (closed trip xs l)
+  unfolding closed
+  same-closed trip l w =
+      rw (
+        tab-alike (gramsOf ys l) (gramsOf xs l) 60 (λ j h. ap (λ n. billionths n .grams) (same-slot l w j h)),
+        tab-alike (restOf ys l) (restOf xs l) 60 (λ j h. ap (λ n. billionths n .rest) (same-slot l w j h)),
+      )
+
+-- the accepted records of a list without class 3 are none of class 3
+kept : (recs : List Record) (n : ℕ) → WithoutClass3 recs → WithoutClass3 (acceptedFrom n recs)
+unfolding acceptedFrom
+kept [] n w = tt
+kept (rec ∷ recs) n w = go (accepts (hasRoom n) rec) (kept recs (n + 1) (w .1)) (kept recs n (w .1))
+  where
+    go : (b : Bool) → WithoutClass3 (acceptedFrom (n + 1) recs) → WithoutClass3 (acceptedFrom n recs)
+        → WithoutClass3 (cond b (rec ∷ acceptedFrom (n + 1) recs) (acceptedFrom n recs))
+    go true a c = (w .0, a)
+    go false a c = c
+
+same-run : (trip : ℕ) (xs ys : List ℕ) → HeadLimits trip xs → HeadLimits trip ys → SameFifteen xs ys → (recs : List Record) → WithoutClass3 recs
+    → runAfter (emptyRun trip ys) recs ≡ withX ys (runAfter (emptyRun trip xs) recs)
+unfolding accepted
+same-run trip xs ys a b same recs w = rw (run-closed trip ys b recs, run-closed trip xs a recs) (same-closed xs ys same trip (acceptedFrom 0 recs) (kept recs 0 w))
 
 pub cold-values : ColdValuesClaim
-unfolding partAt partOf coldPart
 cold-values =
     record {
-      positive = λ head class quantity. lit< tt;
-      rounded = rounded;
       class-3 = λ head. rounded head 3 0 (lit< tt) ∙ ap (λ f. halfUp (f .numerator) 1200000) (own-exact head);
       exact-class-3 = own-exact;
       others =
@@ -53,5 +102,9 @@ cold-values =
           rounded head class quantity q ∙ ap (λ f. halfUp (f .numerator) 1200000) (other-exact head class quantity o)
           ∙ hundred (coldSumOf head (fuelOf class) quantity);
       exact-others = other-exact;
-      last-x-alone = λ xs ys same rec j h o. rw (same-rate xs ys same rec (j % 20 / 4) (omega arith) o);
+      rounded = rounded;
+      last-x-alone = same-part;
+      without-class-3 =
+          λ trip xs ys low high mx my same recs w.
+          same-run trip xs ys (record { trip-low = low; trip-high = high; x-most = mx }) (record { trip-low = low; trip-high = high; x-most = my }) same recs w;
     }

@@ -19,4 +19,4 @@ use Rattle.accuracy.specs.Numbers.{exampleRun, figures, NumbersClaim}
 
 pub numbers : NumbersClaim
 unfolding tab allBelow sumTo outside firstFit halfUp fuelOf hasCold hasOwnX betaReduction xPlace coefficients twoStroke quadratic curve emissionFactor temperatureOk coldShare slopes coldRatio coldExcess monthProduct coldSum xFrom coldX coldFactor temperaturesWrong headGrounds vehicleKm sharesWrong speedsWrong recordGrounds sumAt sumWithin inOrder billionths hotPart coldRate coldPart partOf partAt slotAfter kmOf kmAfter runWith addGrounds addNumber addRun emptyRun freshRun openNumber openRun exactTotal printedTotal totalGrounds balanceRatio balancedTotal soldGrounds balanceGrounds balanceNumber balanceOf co2Grams leadGrams runAfter exampleRun figures
-numbers = (refl, (refl, (refl, (refl, (refl, (refl, (refl, (refl, (refl, (refl, (refl, (refl, (refl, (refl, (refl, (refl, (refl, (refl, (refl, tt)))))))))))))))))))
+numbers = (refl, (refl, (refl, (refl, (refl, (refl, (refl, (refl, (refl, (refl, (refl, (refl, (refl, (refl, (refl, (refl, (refl, (refl, (refl, (refl, tt))))))))))))))))))))

@@ -1,44 +1,58 @@
--- X by class and quantity, rounded and unrounded (SPECIFICATION, "Cold starts" and "Accuracy"), as one claim.
+-- X by class and quantity, rounded and unrounded, and what goes by the X of CO of class 3 (SPECIFICATION, "Cold starts"
+-- and "Accuracy"), as one claim.
 -- Assumes nothing.
-use Prim.Native.Nat.{ℕ, _*_, _/_, _%_, _<_}
+use Prim.Native.Nat.{ℕ, _*_, _≤_, _<_}
 use mathlib.Core.Path.{_≡_}
-use mathlib.Core.List.{List}
+use mathlib.Core.List.{List, [], _∷_}
 use lib.ListN.{getD}
 use Rattle.units.specs.Fractions.{over}
 use Rattle.units.specs.Rounding.{halfUp}
-use Rattle.classes.specs.Classes.{fuelOf, xPlace}
-use Rattle.coldstart.specs.ColdStart.{coldSum}
+use Rattle.classes.specs.Classes.{fuelOf}
 use Rattle.inventory.specs.declared.Head.{Head}
 use Rattle.inventory.specs.declared.Record.{Record}
-use Rattle.inventory.specs.Opening.{freshRun}
-use Rattle.inventory.specs.Adding.{partAt}
-use Rattle.accuracy.specs.Reference.{exactX}
+use Rattle.inventory.specs.declared.Run.{Run}
+use Rattle.inventory.specs.Limits.{XLimits}
+use Rattle.inventory.specs.Opening.{emptyRun, freshRun}
+use Rattle.inventory.specs.Adding.{xOf, partAt}
+use Rattle.accuracy.specs.Reference.{coldSumOf, exactX}
+use Rattle.accuracy.specs.Claim.{runAfter}
 
 -- X of a class and a quantity in the run of a head
-abbrev pub xOf : Head → ℕ → ℕ → ℕ
-xOf head class quantity = getD (freshRun head .x) (xPlace class quantity) 0
+abbrev pub openedX : Head → ℕ → ℕ → ℕ
+openedX head class quantity = xOf (freshRun head .x) class quantity
 
--- the sum of B × Q of a head for a fuel and a quantity
-abbrev pub coldSumOf : Head → ℕ → ℕ → ℕ
-coldSumOf head fuel quantity = coldSum (head .trip) (head .temps) fuel quantity
+-- any class and quantity but CO of class 3
+abbrev pub NotCoOfClass3 : ℕ → ℕ → Type 0
+NotCoOfClass3 class quantity = class ≡ 3 → quantity ≡ 0 → ⊥
 
--- not CO of class 3
-abbrev pub Other : ℕ → ℕ → Type 0
-Other class quantity = class ≡ 3 → quantity ≡ 0 → ⊥
+-- two lists of values X that differ at most in the last, that of CO of class 3
+abbrev pub SameFifteen : List ℕ → List ℕ → Type 0
+SameFifteen xs ys = (i : ℕ) → i < 15 → getD xs i 0 ≡ getD ys i 0
+
+-- no record of the list is of class 3
+abbrev pub WithoutClass3 : List Record → Type 0
+WithoutClass3 [] = Unit
+WithoutClass3 (rec ∷ recs) = (rec .class ≡ 3 → ⊥) × WithoutClass3 recs
+
+-- the run with other values X
+abbrev pub withX : List ℕ → Run → Run
+withX xs run = record { trip = run .trip; x = xs; count = run .count; km = run .km; grams = run .grams; rests = run .rests }
 
 pub record ColdValuesClaim : Type 0 where
-  -- the unrounded X is a fraction over a positive denominator; X is that fraction, half up, rounded once
-  pub positive : (head : Head) (class quantity : ℕ) → 0 < exactX head class quantity .denominator
-  pub rounded : (head : Head) (class quantity : ℕ) → quantity < 5
-      → xOf head class quantity ≡ halfUp (exactX head class quantity .numerator) (exactX head class quantity .denominator)
-  -- CO of class 3 has its own: the sum of B × Q times 72, over 1,200,000
-  pub class-3 : (head : Head) → xOf head 3 0 ≡ halfUp (coldSumOf head 0 0 * 72) 1200000
+  -- CO of class 3 has its own X: the sum of B × Q times 72, over 1,200,000
+  pub class-3 : (head : Head) → openedX head 3 0 ≡ halfUp (coldSumOf head 0 0 * 72) 1200000
   pub exact-class-3 : (head : Head) → exactX head 3 0 ≡ over (coldSumOf head 0 0 * 72) 1200000
-  -- every other class and quantity has that of its fuel, the sum over 12,000, which is 100 times the sum over 1,200,000
-  pub others : (head : Head) (class quantity : ℕ) → quantity < 5 → Other class quantity
-      → xOf head class quantity ≡ halfUp (coldSumOf head (fuelOf class) quantity) 12000
-  pub exact-others : (head : Head) (class quantity : ℕ) → Other class quantity
+  -- every other class and quantity has that of its fuel as it was: the sum over 12,000, which is 100 times the sum over 1,200,000
+  pub others : (head : Head) (class quantity : ℕ) → quantity < 5 → NotCoOfClass3 class quantity
+      → openedX head class quantity ≡ halfUp (coldSumOf head (fuelOf class) quantity) 12000
+  pub exact-others : (head : Head) (class quantity : ℕ) → NotCoOfClass3 class quantity
       → exactX head class quantity ≡ over (coldSumOf head (fuelOf class) quantity * 100) 1200000
-  -- the last X moves nothing but CO of class 3: what a record brings to any other sum is the same whatever that X is
-  pub last-x-alone : (xs ys : List ℕ) → ((i : ℕ) → i < 15 → getD xs i 0 ≡ getD ys i 0)
-      → (rec : Record) (j : ℕ) → j < 60 → Other (rec .class) (j % 20 / 4) → partAt xs rec j ≡ partAt ys rec j
+  -- each X is the unrounded one, half up, rounded once
+  pub rounded : (head : Head) (class quantity : ℕ) → quantity < 5
+      → openedX head class quantity ≡ halfUp (exactX head class quantity .numerator) (exactX head class quantity .denominator)
+  -- the last X moves nothing but the cold CO of class 3 (sum 3): what a record brings to any other sum is the same whatever it is
+  pub last-x-alone : (xs ys : List ℕ) → SameFifteen xs ys → (rec : Record) (j : ℕ) → j < 60 → (rec .class ≡ 3 → j ≡ 3 → ⊥)
+      → partAt xs rec j ≡ partAt ys rec j
+  -- so a list of adds without class 3 gives the same run whatever the last X is, but for that X itself
+  pub without-class-3 : (trip : ℕ) (xs ys : List ℕ) → 10 ≤ trip → trip ≤ 200 → XLimits xs → XLimits ys → SameFifteen xs ys
+      → (recs : List Record) → WithoutClass3 recs → runAfter (emptyRun trip ys) recs ≡ withX ys (runAfter (emptyRun trip xs) recs)

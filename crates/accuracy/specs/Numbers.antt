@@ -1,10 +1,11 @@
 -- SPECIFICATION, "Figures", as one table.
 -- Assumes nothing.
-use Prim.Native.Nat.{ℕ}
+use Prim.Native.Nat.{ℕ, _*_}
 use mathlib.Core.Path.{_≡_}
 use mathlib.Core.List.{List, [], _∷_}
 use lib.IntN.{pos, negℤ}
 use lib.ListN.{replicate}
+use Rattle.units.specs.Rounding.{halfUp}
 use Rattle.factors.specs.Factors.{emissionFactor}
 use Rattle.coldstart.specs.ColdStart.{coldShare, orZero, coldFactor}
 use Rattle.inventory.specs.declared.Head.{Head}
@@ -14,11 +15,15 @@ use Rattle.inventory.specs.Opening.{openRun}
 use Rattle.balance.specs.Balance.{balanceOf}
 use Rattle.fuel.specs.FromFuel.{co2Grams, leadGrams}
 use Rattle.accuracy.specs.Claim.{runAfter}
-use Rattle.accuracy.specs.ColdValues.{xOf}
+use Rattle.accuracy.specs.ColdValues.{openedX}
 
 -- head `  120` and twelve `  100`
 abbrev pub exampleHead : Head
 exampleHead = record { trip = 120; temps = replicate 12 (pos 100) }
+
+-- L 10 and twelve T of -297, where 72/100 of the rounded X of class 2 is not the X of class 3
+abbrev pub coldHead : Head
+coldHead = record { trip = 10; temps = replicate 12 (negℤ (pos 297)) }
 
 -- record ` 2   1000  10000  40  40  20  20  60 100`, with any class
 abbrev pub exampleOf : ℕ → Record
@@ -42,33 +47,31 @@ pub record Figure : Type 0 where
 abbrev pub figure : ℕ → ℕ → Figure
 figure g p = record { given = g; printed = p }
 
--- L 10 and twelve T of -297, where 72/100 of the rounded X of class 2 would be one more
-abbrev pub coldHead : Head
-coldHead = record { trip = 10; temps = replicate 12 (negℤ (pos 297)) }
-
 unfoldable pub figures : List Figure
 figures =
     -- B at L 120, T 100
     figure (orZero (coldShare 120 (pos 100))) 29580000
     -- X of class 2 there: CO, NOX, VOC, FC
-    ∷ figure (xOf exampleHead 2 0) 532440000
-    ∷ figure (xOf exampleHead 2 1) 23664000
-    ∷ figure (xOf exampleHead 2 2) 354960000
-    ∷ figure (xOf exampleHead 2 4) 112404000
+    ∷ figure (openedX exampleHead 2 0) 532440000
+    ∷ figure (openedX exampleHead 2 1) 23664000
+    ∷ figure (openedX exampleHead 2 2) 354960000
+    ∷ figure (openedX exampleHead 2 4) 112404000
     -- X of class 3 there: CO its own, NOX, VOC, FC as class 2
-    ∷ figure (xOf exampleHead 3 0) 383356800
-    ∷ figure (xOf exampleHead 3 1) 23664000
-    ∷ figure (xOf exampleHead 3 2) 354960000
-    ∷ figure (xOf exampleHead 3 4) 112404000
+    ∷ figure (openedX exampleHead 3 0) 383356800
+    ∷ figure (openedX exampleHead 3 1) 23664000
+    ∷ figure (openedX exampleHead 3 2) 354960000
+    ∷ figure (openedX exampleHead 3 4) 112404000
     -- X of CO of classes 2 and 3 at L 10, T -297
-    ∷ figure (xOf coldHead 2 0) 4834859126
-    ∷ figure (xOf coldHead 3 0) 3481098570
+    ∷ figure (openedX coldHead 2 0) 4834859126
+    ∷ figure (openedX coldHead 3 0) 3481098570
+    -- what 72/100 of the rounded X of class 2 would be
+    ∷ figure (halfUp (openedX coldHead 2 0 * 72) 100) 3481098571
     -- class 2 CO at 20, 60, 100
     ∷ figure (emissionFactor 2 0 0 20) 15095000
     ∷ figure (emissionFactor 2 0 1 60) 15295000
     ∷ figure (emissionFactor 2 0 2 100) 34695000
     -- the cold CO factor
-    ∷ figure (coldFactor (emissionFactor 2 0 0 20) (xOf exampleHead 2 0)) 8037182
+    ∷ figure (coldFactor (emissionFactor 2 0 0 20) (openedX exampleHead 2 0)) 8037182
     -- S 1000: k, and the balanced CO
     ∷ figure (balanceOf exampleRun 1 1 1000 .k) 1039246
     ∷ figure (balanceOf exampleRun 1 1 1000 .grams) 28197012

@@ -1,6 +1,6 @@
 -- The reference inventory (SPECIFICATION, "Accuracy"; the request's tally on paper), fed a head and then records, never an answer.
 -- Assumes nothing.
-use Prim.Native.Nat.{ℕ, _+_, _*_, _/_}
+use Prim.Native.Nat.{ℕ, _+_, _*_}
 use mathlib.Core.Bool.{Bool, cond, _&&_}
 use mathlib.Core.List.{List, [], _∷_}
 use lib.Dec.{eqb, ltb}
@@ -30,11 +30,15 @@ accepts room rec = acceptable rec && room
 abbrev pub exactFactor : Record → ℕ → ℕ → ℕ
 exactFactor rec quantity road = factorOf rec quantity road
 
+-- the sum of B × Q of a head for a fuel and a quantity
+abbrev pub coldSumOf : Head → ℕ → ℕ → ℕ
+coldSumOf head fuel quantity = coldSum (head .trip) (head .temps) fuel quantity
+
 -- the unrounded X of a class and a quantity: the sum of B × Q over 12,000, times 72/100 for CO of class 3
 abbrev pub exactX : Head → ℕ → ℕ → Fraction
-exactX head class quantity = over (coldSum (head .trip) (head .temps) (fuelOf class) quantity * betaReduction class quantity) xDenominator
+exactX head class quantity = over (coldSumOf head (fuelOf class) quantity * betaReduction class quantity) xDenominator
 
--- the denominator of the exact sums, 10^16 times that of X
+-- the denominator of the exact sums, 10^16 times that of X, which all X of a head share
 abbrev pub exactDenominator : ℕ
 exactDenominator = 10000000000000000 * xDenominator
 
@@ -50,10 +54,11 @@ unfoldable pub exactCold : Head → Record → ℕ → ℕ
 exactCold head rec quantity =
     cond (hasCold (rec .class)) (vehicleKm rec * exactFactor rec quantity 0 * exactX head (rec .class) quantity .numerator) 0
 
--- what a record brings to a quantity of its fuel: hot over 10^9 plus cold over 10^16
+-- what a record brings to a quantity of its fuel: hot over 10^9 plus cold over 10^16 times the denominator of X
 unfoldable pub exactOf : Head → Record → ℕ → Fraction
 exactOf head rec quantity =
-    over (exactHot rec quantity * (exactDenominator / 1000000000) + exactCold head rec quantity) exactDenominator
+    over (exactHot rec quantity * (10000000 * exactX head (rec .class) quantity .denominator) + exactCold head rec quantity)
+    (10000000000000000 * exactX head (rec .class) quantity .denominator)
 
 -- a fuel is 0 gasoline, 1 diesel, 2 LPG, a quantity 0 CO, 1 NOX, 2 VOC, 3 PM, 4 FC
 pub record Reference : Type 0 where

@@ -2,10 +2,9 @@
 ghost use mathlib.Core.Path.{_≡_};
 ghost use mathlib.Core.Bool.{cond};
 ghost use Prim.Native.Nat.{_+_, _*_, _≤_, _<_};
-ghost use lib.ListN.{getD};
-ghost use Rattle.classes.specs.Classes.{hasCold, xPlace};
+ghost use Rattle.classes.specs.Classes.{hasCold};
 ghost use Rattle.coldstart.specs.ColdStart.{coldFactor};
-ghost use Rattle.inventory.specs.Adding.{billionths};
+ghost use Rattle.inventory.specs.Adding.{billionths, xOf};
 ghost use Rattle.inventory.specs.Limits.{XLimits};
 use inventory::Amount;
 use units::Grams;
@@ -54,7 +53,7 @@ pub fn with_cold(g: Grams, r: u64, k: VehicleKm, f: u64) -> Amount
 // The cold factor of a class and a quantity from E and the values X, 0 for a class without a cold part.
 pub fn cold_rate(class: u64, quantity: usize, e: u64, x: &[u64; 16]) -> u64
     requires { ⌜ (quantity < 5) × (e ≤ 2000000000) × XLimits (now x) ⌝ }
-    ensures { λ r. ⌜ r ≡ cond (hasCold class) (coldFactor e (getD (now (x .entry)) (xPlace class quantity) 0)) 0 ⌝ }
+    ensures { λ r. ⌜ r ≡ cond (hasCold class) (coldFactor e (xOf (now (x .entry)) class quantity)) 0 ⌝ }
 {
     if classes::has_cold(class) {
         let at = classes::x_place(class, quantity);

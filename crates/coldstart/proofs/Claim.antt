@@ -5,14 +5,12 @@ use native.Mathlib.Omega.{arith}
 use Rattle.units.specs.Rounding.{halfUp}
 use Rattle.coldstart.specs.ColdStart.{coldX}
 use Rattle.coldstart.specs.Claim.{shareAt, ShareClaim}
-use Rattle.coldstart.proofs.ColdStart.{month-whole, whole-range, wider, x-fuels, x-class-3, x-most}
+use Rattle.coldstart.proofs.ColdStart.{month-whole, whole-range, wider, x-most}
 
 pub share-claim : ShareClaim
 share-claim =
     record {
       share-range = λ l ts c k h. whole-range _ (shareAt l ts k) (wider (month-whole l ts c k h) (omega arith));
       share-kept = λ l ts c k h. sym (month-whole l ts c k h .same);
-      x-fuels = x-fuels;
-      x-class-3 = x-class-3;
       x-most = λ l ts c i h. omega (arith, x-most l ts c i h);
     }

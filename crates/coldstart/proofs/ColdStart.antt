@@ -23,7 +23,7 @@ use Rattle.units.proofs.Rounds as rounds
 use Rattle.units.proofs.Signed.{Step, arg}
 use Rattle.classes.specs.Classes.{fuelOf, hasOwnX, betaReduction, xCount, xPlace}
 use Rattle.classes.proofs.Classes.{fuel-below, fuel-3, own}
-use Rattle.coldstart.specs.ColdStart.{temperatureOk, coldShare, Slope, slope, slopes, pairs, SlopeLimits, coldRatio, orZero, coldExcess, monthProduct, monthAt, coldSum, coldX, coldFactor, Climate, SmallSums, withMonth, xDenominator, xFrom, coldValues, xOfSums}
+use Rattle.coldstart.specs.ColdStart.{temperatureOk, coldShare, Slope, slope, slopes, pairs, SlopeLimits, coldRatio, orZero, coldExcess, monthProduct, monthAt, coldSum, coldX, coldFactor, Climate, SmallSums, withMonth, xDenominator, xFrom, xMost, coldValues, xOfSums}
 
 -- ---- differences of whole numbers
 
@@ -235,11 +235,11 @@ unfolding coldX xFrom betaReduction hasOwnX
 x-class-3 l ts = refl
 
 -- each X is at most 4,900,000,000
-pub x-most : (l : ℕ) (ts : List ℤ) → Climate l ts → (i : ℕ) → i < xCount → coldX l ts i ≤ 4900000000
+pub x-most : (l : ℕ) (ts : List ℤ) → Climate l ts → (i : ℕ) → i < xCount → coldX l ts i ≤ xMost
 unfolding halfUp
 x-most l ts c i h = go (ltb i 15) refl
   where
-    go : (b : Bool) → ltb i 15 ≡ b → coldX l ts i ≤ 4900000000
+    go : (b : Bool) → ltb i 15 ≡ b → coldX l ts i ≤ xMost
     go true e =
         let b : i < 15 = ltb-true i 15 e in
         rw (x-fuels l ts i b) (omega (arith, sum-most l ts c (i / 5) (i % 5) (omega arith) (omega arith)))
@@ -262,9 +262,9 @@ x-of-class l ts class quantity h = go (hasOwnX class quantity) refl
         let m : (fuelOf class * 5 + quantity) % 5 ≡ quantity = omega arith in
         rw (x-fuels l ts (fuelOf class * 5 + quantity) (omega arith), d, m) (omega arith)
 
-pub cold-factor-most : (e x : ℕ) → e ≤ 2000000000 → x ≤ 4900000000 → coldFactor e x ≤ 9800000000
+pub cold-factor-most : (e x : ℕ) → e ≤ 2000000000 → x ≤ xMost → coldFactor e x ≤ 9800000000
 unfolding coldFactor halfUp
-cold-factor-most e x he hx = omega (arith, rounds.mul-most e x 2000000000 4900000000 he hx)
+cold-factor-most e x he hx = omega (arith, rounds.mul-most e x 2000000000 xMost he hx)
 
 -- the cold factor of a rounded X = s / d against the exact one, per kilometre in units of 1 / (d × 10^16) g: at most 1.5 × 10^9 d apart
 module _ (e s d : ℕ) (small : e ≤ 2000000000) where

@@ -79,11 +79,11 @@ monthAt l s ts k = monthProduct l s (getD ts k (pos 0))
 unfoldable pub coldSum : ℕ → List ℤ → ℕ → ℕ → ℕ
 coldSum l ts fuel quantity = sumTo (monthAt l (slopeOf fuel quantity) ts) 12
 
--- the denominator of X: 1,000 times the sum of the twelve months' weights, each 1
+-- what a sum of B × Q is divided by: 1,000 times the sum of the twelve months' weights, each 1
 abbrev pub coldDenominator : ℕ
 coldDenominator = 12000
 
--- the denominator of X with a reduction factor in hundredths: 1,200,000
+-- what it is divided by where a reduction factor in hundredths multiplies it: 1,200,000
 abbrev pub xDenominator : ℕ
 xDenominator = coldDenominator * 100
 
@@ -96,6 +96,10 @@ xFrom sum i =
 -- X of a head at the place i
 unfoldable pub coldX : ℕ → List ℤ → ℕ → ℕ
 coldX l ts i = xFrom (λ j. coldSum l ts (j / 5) (j % 5)) i
+
+-- each X is at most so much
+abbrev pub xMost : ℕ
+xMost = 4900000000
 
 -- the values X of a head, as a run holds them
 abbrev pub coldValues : ℕ → List ℤ → List ℕ

@@ -5,7 +5,7 @@ ghost use Prim.Native.Nat.{_≤_};
 ghost use lib.IntN.{natAbs};
 ghost use Rattle.units.specs.Lists.{tab};
 ghost use Rattle.classes.specs.Classes.{xCount};
-ghost use Rattle.coldstart.specs.ColdStart.{Climate, coldExcess, coldFactor, coldShare, coldValues, SlopeLimits, SmallSums, pairs, slope, slopes, temperatureOk, withMonth, xOfSums};
+ghost use Rattle.coldstart.specs.ColdStart.{Climate, coldExcess, coldFactor, coldShare, coldValues, SlopeLimits, SmallSums, pairs, slope, slopes, temperatureOk, withMonth, xMost, xOfSums};
 ghost use Rattle.coldstart.specs.Claim.{ShareClaim};
 
 // Whether a temperature is from -300 to 400 tenths of a degree.
@@ -112,7 +112,7 @@ pub fn cold_values(l: u64, temps: &[i64; 12]) -> [u64; 16]
 
 // The cold factor of E and X.
 pub fn cold_factor(e: u64, x: u64) -> u64
-    requires { ⌜ (e ≤ 2000000000) × (x ≤ 4900000000) ⌝ }
+    requires { ⌜ (e ≤ 2000000000) × (x ≤ xMost) ⌝ }
     ensures { λ r. ⌜ r ≡ coldFactor e x ⌝ }
 {
     (e * x + 500000000) / 1000000000

@@ -11,7 +11,7 @@ use borrow.Author.Tests.{lt-ltb, le-ltb, lt-leb, le-leb, eq-eqb, ne-eqb, ltb-tru
 use Rattle.units.specs.declared.Grams.{Grams}
 use Rattle.units.specs.Grounds.{Ground, ground, firstFit}
 use Rattle.units.proofs.Grounds.{fit-append}
-use Rattle.classes.specs.Classes.{fuelOf, hasCold, xPlace}
+use Rattle.classes.specs.Classes.{fuelOf, hasCold}
 use Rattle.factors.specs.Factors.{emissionFactor, Driven}
 use Rattle.classes.proofs.Classes.{x-below}
 use Rattle.factors.proofs.Factors.{factor-most}
@@ -22,7 +22,7 @@ use Rattle.inventory.specs.declared.Run.{Run}
 use Rattle.inventory.specs.Records.{recordGrounds, vehicleKm, shareOf, speedOf}
 use Rattle.inventory.specs.Order.{inOrder, gramsIn, restIn, sumAt, recordLimit}
 use Rattle.inventory.specs.Limits.{RecordLimits, XLimits, RunLimits}
-use Rattle.inventory.specs.Adding.{billionths, factorOf, hotPart, coldRate, coldPart, partOf, partAt, slotAfter, kmOf, addGrounds, addNumber}
+use Rattle.inventory.specs.Adding.{billionths, factorOf, hotPart, xOf, coldRate, coldPart, partOf, partAt, slotAfter, kmOf, addGrounds, addNumber}
 
 -- ---- the number of an add
 
@@ -68,7 +68,7 @@ module _ (rec : Record) (lim : RecordLimits rec) where
     pub rate-most : (quantity : ℕ) → quantity < 5 → coldRate xs rec quantity ≤ 9800000000
     unfolding coldRate
     rate-most quantity h =
-        cond-most (hasCold (rec .class)) (coldFactor (factorOf rec quantity 0) (getD xs (xPlace (rec .class) quantity) 0)) 9800000000
+        cond-most (hasCold (rec .class)) (coldFactor (factorOf rec quantity 0) (xOf xs (rec .class) quantity)) 9800000000
         (cold-factor-most _ _ (factor-high quantity 0 h (omega arith)) (high _ (x-below (rec .class) quantity h)))
 
     cold-most : (quantity : ℕ) → quantity < 5 → coldPart xs rec quantity ≤ 1000000000000000000000

@@ -30,10 +30,14 @@ factorOf rec quantity road = emissionFactor (rec .class) quantity road (speedOf 
 unfoldable pub hotPart : Record → ℕ → ℕ → ℕ
 hotPart rec quantity road = vehicleKm rec * shareOf rec road * factorOf rec quantity road
 
+-- X of a class and a quantity among the values X of a run
+abbrev pub xOf : List ℕ → ℕ → ℕ → ℕ
+xOf xs class quantity = getD xs (xPlace class quantity) 0
+
 -- the cold factor of a record at its urban speed, 0 for a class without a cold part; xs are the values X
 unfoldable pub coldRate : List ℕ → Record → ℕ → ℕ
 coldRate xs rec quantity =
-    cond (hasCold (rec .class)) (coldFactor (factorOf rec quantity 0) (getD xs (xPlace (rec .class) quantity) 0)) 0
+    cond (hasCold (rec .class)) (coldFactor (factorOf rec quantity 0) (xOf xs (rec .class) quantity)) 0
 
 -- cold grams, K × cold factor / 10,000,000, in billionths
 unfoldable pub coldPart : List ℕ → Record → ℕ → ℕ

@@ -5,6 +5,7 @@ use mathlib.Core.List.{List}
 use lib.ListN.{getD}
 use Rattle.classes.specs.Classes.{xCount}
 use Rattle.factors.specs.Factors.{Driven}
+use Rattle.coldstart.specs.ColdStart.{xMost}
 use Rattle.inventory.specs.declared.Record.{Record}
 use Rattle.inventory.specs.declared.Run.{Run}
 use Rattle.inventory.specs.Records.{vehicleKm, shareOf, speedOf}
@@ -18,7 +19,7 @@ pub record RecordLimits (rec : Record) : Type 0 where
 
 -- each X is at most 4,900,000,000
 abbrev pub XLimits : List ℕ → Type 0
-XLimits xs = (i : ℕ) → i < xCount → getD xs i 0 ≤ 4900000000
+XLimits xs = (i : ℕ) → i < xCount → getD xs i 0 ≤ xMost
 
 -- a run in order
 pub record RunLimits (run : Run) : Type 0 where

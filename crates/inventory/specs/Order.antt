@@ -7,6 +7,7 @@ use lib.ListN.{getD}
 use Rattle.units.specs.Lists.{allBelow}
 use Rattle.units.specs.Grounds.{outside}
 use Rattle.classes.specs.Classes.{xCount}
+use Rattle.coldstart.specs.ColdStart.{xMost}
 use Rattle.inventory.specs.declared.Run.{Run}
 
 -- the whole grams of the sum j = fuel × 20 + quantity × 4 + kind
@@ -30,7 +31,7 @@ abbrev pub recordLimit : ℕ
 recordLimit = 5000
 
 abbrev pub xOk : Run → ℕ → Bool
-xOk run i = leb (getD (run .x) i 0) 4900000000
+xOk run i = leb (getD (run .x) i 0) xMost
 
 -- the rest r is below its limit, and g grams with it are at most so many grams
 unfoldable pub sumWithin : ℕ → ℕ → ℕ → Bool

@@ -38,8 +38,8 @@ pub struct Record {
     pub speeds: Speeds,
 }
 
-// A run: the head's trip length and values X (fuel × 5 + quantity, then CO of class 3), the record count, the kilometres of each fuel,
-// and 60 sums (fuel × 20 + quantity × 4 + kind) as whole grams and a rest in billionths.
+// A run: the head's trip length and values X (fuel × 5 + quantity, then CO of class 3), the record count, the kilometres
+// of each fuel, and 60 sums (fuel × 20 + quantity × 4 + kind) as whole grams and a rest in billionths.
 #[repr(C)]
 pub struct Run {
     pub trip: u64,

@@ -8,7 +8,7 @@ use lib.ListN.{getD}
 use Rattle.units.specs.declared.Grams.{Grams}
 use Rattle.units.specs.Lists.{tab}
 use Rattle.units.proofs.Between.{Between}
-use Rattle.classes.specs.Classes.{fuelOf, hasCold, xPlace}
+use Rattle.classes.specs.Classes.{fuelOf, hasCold}
 use Rattle.factors.specs.Factors.{factorAt}
 use Rattle.factors.proofs.Factors.{factor-read}
 use Rattle.coldstart.specs.ColdStart.{coldFactor}
@@ -18,7 +18,7 @@ use Rattle.inventory.specs.declared.Run.{Run}
 use Rattle.inventory.specs.Records.{vehicleKm, shareOf, speedOf}
 use Rattle.inventory.specs.Order.{gramsIn, restIn}
 use Rattle.inventory.specs.Limits.{RecordLimits, RunLimits}
-use Rattle.inventory.specs.Adding.{billionths, factorOf, coldRate, slotAfter}
+use Rattle.inventory.specs.Adding.{billionths, factorOf, xOf, coldRate, slotAfter}
 use Rattle.inventory.proofs.Adding.{factor-high, rate-most, hot-slot, cold-slot}
 
 -- the 15 factors of a record
@@ -33,12 +33,12 @@ module _ (rec : Record) (f : List ℕ) (given : Factors rec f) (q : ℕ) (hq : q
   factor-small lim road i h e = rw (factor-is road i h e) (factor-high rec lim q road hq h)
 
   module _ (run : Run) (fuel : ℕ) (ef : fuel ≡ fuelOf (rec .class)) where
-    rate-is : (c : ℕ) → c ≡ cond (hasCold (rec .class)) (coldFactor (getD f (q * 3) 0) (getD (run .x) (xPlace (rec .class) q) 0)) 0 → c ≡ coldRate (run .x) rec q
+    rate-is : (c : ℕ) → c ≡ cond (hasCold (rec .class)) (coldFactor (getD f (q * 3) 0) (xOf (run .x) (rec .class) q)) 0 → c ≡ coldRate (run .x) rec q
     unfolding coldRate
     rate-is c e = rw (← factor-is 0 (q * 3) (omega arith) (omega arith)) e
 
     pub rate-small : RecordLimits rec → RunLimits run → (c : ℕ)
-        → c ≡ cond (hasCold (rec .class)) (coldFactor (getD f (q * 3) 0) (getD (run .x) (xPlace (rec .class) q) 0)) 0 → c ≤ 9800000000
+        → c ≡ cond (hasCold (rec .class)) (coldFactor (getD f (q * 3) 0) (xOf (run .x) (rec .class) q)) 0 → c ≤ 9800000000
     rate-small lim r c e = rw (rate-is c e) (rate-most rec lim (run .x) (r .x-most) q hq)
 
     pub hot-made : (road i j : ℕ) (s : Amount) → road < 3 → i ≡ q * 3 + road → j ≡ fuel * 20 + q * 4 + road
@@ -48,7 +48,7 @@ module _ (rec : Record) (f : List ℕ) (given : Factors rec f) (q : ℕ) (hq : q
         e ∙ ap billionths (rw (factor-is road i h ei) (hot-slot run rec fuel q ef hq road j h ej))
 
     pub cold-made : (j c : ℕ) (s : Amount) → j ≡ fuel * 20 + q * 4 + 3
-        → c ≡ cond (hasCold (rec .class)) (coldFactor (getD f (q * 3) 0) (getD (run .x) (xPlace (rec .class) q) 0)) 0
+        → c ≡ cond (hasCold (rec .class)) (coldFactor (getD f (q * 3) 0) (xOf (run .x) (rec .class) q)) 0
         → s ≡ billionths (gramsIn run j * 1000000000 + restIn run j + rec .vehicles * rec .km * c * 100) → s ≡ slotAfter run rec j
     unfolding slotAfter vehicleKm
     cold-made j c s ej ec e = e ∙ ap billionths (rw (rate-is c ec) (cold-slot run rec fuel q ef hq j ej))

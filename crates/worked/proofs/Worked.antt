@@ -64,10 +64,10 @@ unfolding tab allBelow sumTo outside firstFit halfUp plus fuelOf hasCold hasOwnX
 worked =
     let all : acceptedFrom 0 (many 5000) ≡ many 5000 = many-accepted 5000 0 (lit≤ tt) in
     record {
-      refused-between = record { totals = refl; counted = refl; distance = refl; numerators = refl };
-      three-fuels = record { totals = refl; counted = refl; distance = refl; numerators = refl };
-      class-3 = record { totals = refl; counted = refl; distance = refl; numerators = refl };
-      classes-2-and-3 = record { totals = refl; counted = refl; distance = refl; numerators = refl };
+      refused-between = record { totals = refl; counted = refl; distance = refl; numerators = refl; denominators = refl };
+      three-fuels = record { totals = refl; counted = refl; distance = refl; numerators = refl; denominators = refl };
+      class-3 = record { totals = refl; counted = refl; distance = refl; numerators = refl; denominators = refl };
+      classes-2-and-3 = record { totals = refl; counted = refl; distance = refl; numerators = refl; denominators = refl };
       last-taken = next-number 4999 (lit≤ tt);
       next-refused = next-number 5000 (lit≤ tt);
       full-count = refl;

@@ -13,12 +13,14 @@ use Rattle.accuracy.specs.Reference.{referenceOf, exactDenominator}
 use Rattle.accuracy.specs.Claim.{runAfter}
 use Rattle.accuracy.specs.Numbers.{exampleHead, exampleOf}
 
--- the totals that the run after a list prints (fuel × 5 + quantity), and the reference's count, kilometres and exact numerators
+-- the totals that the run after a list prints (fuel × 5 + quantity), and the reference's count, kilometres and exact sums,
+-- each as its numerator over 12 × 10^21
 pub record ListGives (recs : List Record) (printed : List ℕ) (count : ℕ) (km exact : List ℕ) : Type 0 where
   pub totals : tab (λ i. totalOf (runAfter (openRun exampleHead) recs) (i / 5 + 1) (i % 5 + 1) .grams) 15 ≡ printed
   pub counted : referenceOf exampleHead recs .count ≡ count
   pub distance : tab (referenceOf exampleHead recs .km) 3 ≡ km
   pub numerators : tab (λ i. referenceOf exampleHead recs .exact (i / 5) (i % 5) .numerator) 15 ≡ exact
+  pub denominators : tab (λ i. referenceOf exampleHead recs .exact (i / 5) (i % 5) .denominator) 15 ≡ tab (λ i. 12000000000000000000000) 15
 
 -- the same record so many times
 abbrev pub many : ℕ → List Record
