@@ -1,5 +1,5 @@
 -- X by class and quantity, rounded and unrounded, and what goes by the X of CO of class 3. Assumes nothing.
-use mathlib.Core.Path.{_≡_, refl, ap, _∙_}
+use mathlib.Core.Path.{_≡_, refl, sym, ap, _∙_}
 use mathlib.Core.Bool.{Bool, true, false, cond}
 use mathlib.Core.List.{List, [], _∷_}
 use Prim.Native.Nat.{ℕ, _+_, _*_, _/_, _%_, _<_}
@@ -10,6 +10,7 @@ use Rattle.units.specs.Fractions.{over}
 use Rattle.units.specs.Rounding.{halfUp}
 use Rattle.classes.specs.Classes.{fuelOf, hasOwnX, betaReduction}
 use Rattle.classes.proofs.Classes.{fuel-below, fuel-3, other-place, other-whole}
+use Rattle.coldstart.proofs.ColdStart.{hundredths}
 use Rattle.inventory.specs.declared.Head.{Head}
 use Rattle.inventory.specs.declared.Record.{Record}
 use Rattle.inventory.specs.Opening.{emptyRun, freshRun}
@@ -32,11 +33,6 @@ own-exact head = refl
 other-exact : (head : Head) (class quantity : ℕ) → NotCoOfClass3 class quantity
     → exactX head class quantity ≡ over (coldSumOf head (fuelOf class) quantity * 100) 1200000
 other-exact head class quantity o = rw (other-whole class quantity o)
-
--- 100 times a sum over 100 times its denominator is rounded alike
-hundred : (s : ℕ) → halfUp (s * 100) 1200000 ≡ halfUp s 12000
-unfolding halfUp
-hundred s = omega arith
 
 -- ---- what goes by the last X
 
@@ -100,7 +96,7 @@ cold-values =
       others =
           λ head class quantity q o.
           rounded head class quantity q ∙ ap (λ f. halfUp (f .numerator) 1200000) (other-exact head class quantity o)
-          ∙ hundred (coldSumOf head (fuelOf class) quantity);
+          ∙ sym (hundredths (coldSumOf head (fuelOf class) quantity));
       exact-others = other-exact;
       rounded = rounded;
       last-x-alone = same-part;

@@ -34,11 +34,6 @@ unfolding xPlace
 x-below class quantity h = below-by (hasOwnX class quantity) (fuelOf class * 5 + quantity) (omega (arith, fuel-below class))
 
 -- only CO of class 3 has an X of its own
-own-by : (a b : Bool) (class quantity : ℕ) → eqb class 3 ≡ a → eqb quantity 0 ≡ b → (class ≡ 3 → quantity ≡ 0 → ⊥) → (a && b) ≡ false
-own-by true true class quantity ea eb n = absurd (n (eqb-true class 3 ea) (eqb-true quantity 0 eb))
-own-by true false class quantity ea eb n = refl
-own-by false b class quantity ea eb n = refl
-
 own-of : (a b : Bool) (class quantity : ℕ) → eqb class 3 ≡ a → eqb quantity 0 ≡ b → (a && b) ≡ true → (class ≡ 3) × (quantity ≡ 0)
 own-of true true class quantity ea eb e = (eqb-true class 3 ea, eqb-true quantity 0 eb)
 own-of true false class quantity ea eb e = absurd (never e)
@@ -49,9 +44,12 @@ unfolding hasOwnX
 own class quantity e = own-of (eqb class 3) (eqb quantity 0) class quantity refl refl e
 
 module _ (class quantity : ℕ) (other : class ≡ 3 → quantity ≡ 0 → ⊥) where
-  pub no-own : hasOwnX class quantity ≡ false
-  unfolding hasOwnX
-  no-own = own-by (eqb class 3) (eqb quantity 0) class quantity refl refl other
+  no-own : hasOwnX class quantity ≡ false
+  no-own = go (hasOwnX class quantity) refl
+    where
+      go : (b : Bool) → hasOwnX class quantity ≡ b → b ≡ false
+      go true e = let p = own class quantity e in absurd (other (p .0) (p .1))
+      go false e = refl
 
   pub other-place : xPlace class quantity ≡ fuelOf class * 5 + quantity
   unfolding xPlace

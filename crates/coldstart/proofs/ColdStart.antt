@@ -247,10 +247,15 @@ x-most l ts c i h = go (ltb i 15) refl
         let last : i ≡ 15 = omega (arith, ltb-false i 15 e) in
         rw (last, x-class-3 l ts) (omega (arith, sum-most l ts c 0 0 (omega arith) (omega arith)))
 
+-- 100 hundredths of a sum are rounded as the sum itself
+pub hundredths : (s : ℕ) → halfUp s 12000 ≡ halfUp (s * 100) xDenominator
+unfolding halfUp
+hundredths s = omega arith
+
 -- X of a class and a quantity: the sum times the reduction factor, over 1,200,000, half up
 pub x-of-class : (l : ℕ) (ts : List ℤ) (class quantity : ℕ) → quantity < 5
     → coldX l ts (xPlace class quantity) ≡ halfUp (coldSum l ts (fuelOf class) quantity * betaReduction class quantity) xDenominator
-unfolding xPlace betaReduction halfUp
+unfolding xPlace betaReduction
 x-of-class l ts class quantity h = go (hasOwnX class quantity) refl
   where
     go : (b : Bool) → hasOwnX class quantity ≡ b
@@ -260,7 +265,7 @@ x-of-class l ts class quantity h = go (hasOwnX class quantity) refl
         let f = fuel-below class in
         let d : (fuelOf class * 5 + quantity) / 5 ≡ fuelOf class = omega arith in
         let m : (fuelOf class * 5 + quantity) % 5 ≡ quantity = omega arith in
-        rw (x-fuels l ts (fuelOf class * 5 + quantity) (omega arith), d, m) (omega arith)
+        rw (x-fuels l ts (fuelOf class * 5 + quantity) (omega arith), d, m) (hundredths (coldSum l ts (fuelOf class) quantity))
 
 pub cold-factor-most : (e x : ℕ) → e ≤ 2000000000 → x ≤ xMost → coldFactor e x ≤ 9800000000
 unfolding coldFactor halfUp
