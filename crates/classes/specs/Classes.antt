@@ -17,7 +17,7 @@ hasCold class = not (eqb class 5)
 unfoldable pub hasOwnX : ℕ → ℕ → Bool
 hasOwnX class quantity = eqb class 3 && eqb quantity 0
 
--- the β-parameter reduction factor (bc), in hundredths: what is left of the cold share of the distance
+-- the β-parameter reduction factor (bc), in hundredths: how much of the cold distance a later technology needs to heat up
 unfoldable pub betaReduction : ℕ → ℕ → ℕ
 betaReduction class quantity = cond (hasOwnX class quantity) 72 100
 
