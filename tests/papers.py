@@ -13,6 +13,7 @@ from fractions import Fraction
 
 ROOT = os.path.abspath(os.path.join(os.path.dirname(os.path.abspath(__file__)), ".."))
 sys.path.insert(0, os.path.join(ROOT, "tools"))
+import factors
 import reference as ref
 
 passed = failed = 0
@@ -111,6 +112,7 @@ def samples():
     for label, text in (("example's report", ref.program_text(example.encode()).decode()), ("fleet's report", ref.program_text(fleet.encode()).decode())):
         same("README: " + label, text in blocks, True)
     same("README: the fleet", any(block.endswith(fleet) for block in blocks), True)
+    same("README: the factors of class 6", factors.table(6).startswith(next(block for block in blocks if block.startswith("class 6,"))), True)
     same("README: the damaged sheet", "prints `%s`" % ref.program_text(damaged.encode()).decode().rstrip("\n") in README, True)
 
 

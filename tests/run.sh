@@ -7,7 +7,7 @@
 #   tests/run.sh --tools        only whether every tool is there
 set -u
 cd "$(dirname "$0")/.." || exit 1
-for tool in rt gcc g++ ar nm rustc python3; do
+for tool in rt gcc g++ ar nm objdump rustc python3; do
     command -v "$tool" > /dev/null || { echo "tests/run.sh: $tool is not installed"; exit 1; }
 done
 [ "${1:-}" != --tools ] || exit 0
@@ -19,7 +19,7 @@ logs=target/tests
 mkdir -p "$logs"
 
 # The parts, the longest first; what each runs.
-parts="report differential wrong_programs vectors sheets questions timing tight_list layout examples header python readme papers promises gate"
+parts="report differential wrong_programs vectors sheets questions timing tight_list layout examples header python readme book papers promises gate"
 run_part() {
     case $1 in
     report) python3 tests/report.py target/bin/report ;;
@@ -32,6 +32,7 @@ run_part() {
     header) python3 tests/header.py ;;
     python) python3 tests/python.py ;;
     readme) python3 tests/readme.py ;;
+    book) python3 tests/book.py ;;
     papers) python3 tests/papers.py ;;
     promises) python3 tests/promises.py ;;
     gate) tests/gate.sh ;;

@@ -350,6 +350,29 @@ fn one_x(held: &mut Held, r: &mut Random, run: c::Run, place: usize) {
     }
 }
 
+/// Every class on every road at every speed: by adds, as a list and as a sheet.
+fn every_factor(held: &mut Held, r: &mut Random) {
+    let head = plain::Head { trip: 120, temps: [100; 12] };
+    for class in 1..=7 {
+        let mut records = Vec::new();
+        for (road, speed) in (0..3).flat_map(|road| (10..=130).map(move |speed| (road, speed))) {
+            let (mut shares, mut speeds) = ([0; 3], [140 - speed; 3]);
+            (shares[road], speeds[road]) = (100, speed);
+            // no two with the same vehicles, so that speeds exchanged show in the sums of them all
+            let vehicles = 1 + records.len() as u64 * 2700;
+            records.push(plain::Record { class, vehicles, km: 1000, shares, speeds });
+        }
+        let (mut ours, mut theirs) = open(held, &head).expect("a head in range");
+        let mut text = random::head_line(&head);
+        for record in &records {
+            assert_eq!(add(held, &mut ours, &mut theirs, record), 0);
+            text.extend(random::record_line(record));
+        }
+        ask_list(held, &head, &records.iter().flat_map(numbers).collect::<Vec<_>>());
+        ask_sheet(held, r, &text, 0);
+    }
+}
+
 // ---- Questions
 
 /// Whether the run is in order.
@@ -734,6 +757,7 @@ fn main() {
     class_3(&mut held, &mut r, 9_000 / part);
     sheets(&mut held, &mut r, 205_000 / part);
     lists(&mut held, &mut r, 60_000 / part, small);
+    every_factor(&mut held, &mut r);
 
     println!("runs opened and added to: {runs}, of them full: {full}; runs in order made up: {made}; runs out of order: {}", held.out_of_order);
     println!("adds: {}; sheets: {}; buffers compared whole: {}; figures not given: {}", held.of(ADD), held.of(SHEET), held.buffers, held.not_given);

@@ -11,7 +11,7 @@ use lib.ListN.{length, length-append}
 use Rattle.units.specs.declared.Grams.{Grams}
 use Rattle.units.specs.declared.VehicleKm.{VehicleKm}
 use Rattle.units.specs.Lists.{tab}
-use Rattle.units.proofs.Tab.{tab-at}
+use Rattle.units.proofs.Tab.{tab-at, tab-alike}
 use Rattle.units.proofs.Tests.{and-right}
 use Rattle.inventory.specs.declared.Record.{Record}
 use Rattle.inventory.specs.declared.Run.{Run}
@@ -23,7 +23,7 @@ use Rattle.inventory.proofs.Order.{order-by}
 use Rattle.inventory.proofs.Adding.{add-taken}
 use Rattle.accuracy.specs.Reference.{acceptable, hasRoom, accepts, acceptedFrom, accepted}
 use Rattle.accuracy.specs.Claim.{runAfter}
-use Rattle.accuracy.proofs.Sums.{tab-alike, sumOf, sum-one-more, sum-most, Each, each-one-more}
+use Rattle.accuracy.proofs.Sums.{sumOf, sum-one-more, sum-most, Each, each-one-more}
 use Rattle.accuracy.proofs.OneRecord.{accepted-limits, brings-most}
 
 -- the billionths of a gram that the records of l bring to the sum j

@@ -8,6 +8,7 @@ use borrow.Author.Tests.{eqb-true, ltb-false}
 use lib.Dec.{eqb, ltb, lit<}
 use Rattle.units.specs.Fractions.{over}
 use Rattle.units.specs.Rounding.{halfUp}
+use Rattle.units.proofs.Tab.{tab-alike}
 use Rattle.classes.specs.Classes.{fuelOf, hasOwnX, betaReduction}
 use Rattle.classes.proofs.Classes.{fuel-below, fuel-3, other-place, other-whole}
 use Rattle.coldstart.proofs.ColdStart.{hundredths}
@@ -18,7 +19,7 @@ use Rattle.inventory.specs.Adding.{billionths, coldRate, hotPart, coldPart, par
 use Rattle.accuracy.specs.Reference.{coldSumOf, exactX, hasRoom, accepts, acceptedFrom, accepted}
 use Rattle.accuracy.specs.Claim.{runAfter}
 use Rattle.accuracy.specs.ColdValues.{openedX, NotCoOfClass3, SameFifteen, WithoutClass3, withX, ColdValuesClaim}
-use Rattle.accuracy.proofs.Sums.{tab-alike, sumOf}
+use Rattle.accuracy.proofs.Sums.{sumOf}
 use Rattle.accuracy.proofs.OneRecord.{x-rounded}
 use Rattle.accuracy.proofs.Closed.{HeadLimits, slotSum, gramsOf, restOf, closed, run-closed}
 

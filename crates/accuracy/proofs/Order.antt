@@ -9,10 +9,11 @@ use borrow.Author.Tests.{eqb-true, eq-eqb}
 use lib.Dec.{eqb}
 use lib.ListN.{length}
 use Rattle.units.proofs.Tests.{and-left, and-right}
+use Rattle.units.proofs.Tab.{tab-alike}
 use Rattle.inventory.specs.declared.Record.{Record}
 use Rattle.inventory.specs.Adding.{billionths, partAt, kmOf}
 use Rattle.accuracy.specs.Reference.{sameRecord, occurs}
-use Rattle.accuracy.proofs.Sums.{tab-alike, sumOf}
+use Rattle.accuracy.proofs.Sums.{sumOf}
 use Rattle.accuracy.proofs.Closed.{slotSum, kmSum, kmsOf, gramsOf, restOf, closed}
 
 -- ---- sameness is equality

@@ -1,18 +1,11 @@
 -- Sums over lists of records, and distances of two numbers.
 -- Assumes nothing.
-use mathlib.Core.Path.{_≡_, refl}
+use mathlib.Core.Path.{_≡_}
 use mathlib.Core.List.{List, [], _∷_, _++_}
-use Prim.Native.Nat.{ℕ, zero, suc, _+_, _*_, _≤_, _<_}
+use Prim.Native.Nat.{ℕ, _+_, _*_, _≤_}
 use native.Mathlib.Omega.{arith}
 use lib.ListN.{length}
-use Rattle.units.specs.Lists.{tab}
 use Rattle.inventory.specs.declared.Record.{Record}
-
--- two lists by index whose entries are alike
-pub tab-alike : {A : Type 0} (f g : ℕ → A) (n : ℕ) → ((i : ℕ) → i < n → f i ≡ g i) → tab f n ≡ tab g n
-unfolding tab
-tab-alike f g zero h = refl
-tab-alike f g (suc n) h = rw (tab-alike f g n (λ i b. h i (omega arith)), h n (omega arith))
 
 -- the sum of a number of each record
 unfoldable pub sumOf : (Record → ℕ) → List Record → ℕ

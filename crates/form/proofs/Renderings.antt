@@ -10,7 +10,7 @@ use lib.Seq.{take-at, drop-at, getD-append-add, drop-drop}
 use Rattle.units.specs.Lists.{tab, sumTo}
 use Rattle.units.specs.Grounds.{firstFit}
 use Rattle.units.proofs.Grounds.{passed}
-use Rattle.units.proofs.Tab.{tab-at}
+use Rattle.units.proofs.Tab.{tab-at, tab-alike}
 use Rattle.units.proofs.Tests.{inside, inside-high, all}
 use Rattle.fields.proofs.RoundTrip.{taken, taken-minus, length-minus}
 use Rattle.text.proofs.Write.{length-render}
@@ -25,7 +25,6 @@ use Rattle.inventory.specs.Opening.{emptyRun, freshRun, openNumber, openRun}
 use Rattle.inventory.specs.Adding.{addNumber, addRun}
 use Rattle.inventory.proofs.Records.{climate, record-limits}
 use Rattle.accuracy.specs.Claim.{runAfter}
-use Rattle.accuracy.proofs.Sums.{tab-alike}
 use Rattle.verdicts.proofs.Verdicts.{good-head}
 use Rattle.recording.proofs.Runs.{open-by, run-opened, ready}
 use Rattle.lines.specs.Lines.{lines, headWidths, recordWidths, total, fields, signedOf, numberIn, numbersIn, numbersOf}

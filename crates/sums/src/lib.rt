@@ -26,7 +26,7 @@ pub fn sums_with(grams: WholeGrams, rests: &mut [u64; 60], x: &[u64; 16], rec: R
     let shares = rec.shares;
     let fuel = classes::fuel_of(rec.class);
     let k = VehicleKm(rec.vehicles * rec.km);
-    let f = factors::factors_of(
+    let f = book::factors_of(
         rec.class,
         rec.speeds.urban,
         rec.speeds.rural,

@@ -1,0 +1,15 @@
+-- `book_lines::page_last` meets its contract. Assumes nothing.
+use native.Mathlib.Omega.{arith}
+use borrow.Author.Needs.{needs}
+use Rattle.book_lines.proofs.Lines.{others-le}
+use Rattle.book_lines.proofs.page_last.Statement.{statement}
+use Rattle.book_lines.proofs.page_last.Tie as tie
+
+page-from-requires : tie.Need-page-from-requires
+page-from-requires c κs = let h = others-le 362 (c .args .n) (c .pre .1) in (omega (arith, h), omega arith)
+
+returns : tie.Need-returns
+returns c = search needs
+
+pub page-last-spec : {M : Type 1} → statement M
+page-last-spec = tie.close (tie.spec page-from-requires returns)
