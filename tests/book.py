@@ -5,7 +5,7 @@
 entries   crates/factorbook/stdout against tools/reference.py, and the generated sources against it (tools/book.py --check)
 table     tools/factors.py prints every factor of every class in g/km, and says what it cannot print
 callers   the generator alone asks the curves; the constant is named once, and `page_at` called once
-folded    in each object of the archive that adds, the compiler made the lookup tables of the book, 10 of 363 numbers, and in the
+folded    in each object of the archive that adds, the compiler made the lookup tables of the book, 10 of 362 numbers, and in the
           others none. Where they are missing the whole book is built anew at each add: no proof sees that, only the clock does
 
 Needs the archive. Prints a line for each part, and exits 1 where one failed.
@@ -23,8 +23,8 @@ import book
 import reference as ref
 
 QUANTITY = {name: quantity for quantity, name in ref.NAMES.items()}
-# 10 values of a page, one for each of 363 pages, 8 bytes each
-TABLES, TABLE_BYTES = 10, 363 * 8
+# the 10 numbers of a page, for each of 362 pages, 8 bytes each; the last page is the default arm and stands in the code
+TABLES, TABLE_BYTES = 10, 362 * 8
 ADDING, OTHERS = ("capi_runs", "capi_lists", "capi_texts"), ("capi_questions", "capi_map")
 
 

@@ -1,2 +1,2 @@
 pub mod Computed
-pub mod Roads
+pub mod Lines

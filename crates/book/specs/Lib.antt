@@ -1,1 +1,1 @@
-pub mod Roads
+pub mod Line

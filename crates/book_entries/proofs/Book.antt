@@ -53,7 +53,7 @@ book-at : (i : ℕ) → i < 3630 → getD book i 0 ≡ entryOf i
 unfolding book
 book-at i h = tab-at 0 entryOf 3630 i h
 
-book-curve : (class quantity v : ℕ) → Driven class v → (class ≡ 5 → ⊥) → quantity < 5 → getD book (entryPlace (placeOf class) quantity (v - 10)) 0 ≡ natAbs (curve class quantity v)
+pub book-curve : (class quantity v : ℕ) → Driven class v → (class ≡ 5 → ⊥) → quantity < 5 → getD book (entryPlace (placeOf class) quantity (v - 10)) 0 ≡ natAbs (curve class quantity v)
 unfolding entryOf
 book-curve class quantity v d n h =
     let p = placed class v d n in
