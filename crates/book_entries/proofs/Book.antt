@@ -39,10 +39,12 @@ unfolding classAt
 in-range place true e h = let l = ltb-true place 4 e in rw e (omega arith, omega arith, λ (f : place + 1 ≡ 5). absurd (omega (arith, l, f)))
 in-range place false e h = let l = ltb-false place 4 e in rw e (omega arith, omega arith, λ (f : place + 2 ≡ 5). absurd (omega (arith, l, f)))
 
-pub class-driven : (place v : ℕ) → place < 6 → 10 ≤ v → v ≤ 130 → Driven (classAt place) v
-class-driven place v h low high =
+-- what the curves ask for at one speed on all roads
+pub driven-roads : (place v : ℕ) → place < 6 → 10 ≤ v → v ≤ 130 → (Driven (classAt place) v × Driven (classAt place) v × Driven (classAt place) v) × (classAt place ≡ 5 → ⊥)
+driven-roads place v h low high =
     let c = in-range place (ltb place 4) refl h in
-    record { class-low = c .0; class-high = c .1; speed-low = low; speed-high = high }
+    let d : Driven (classAt place) v = record { class-low = c .0; class-high = c .1; speed-low = low; speed-high = high } in
+    ((d, d, d), c .2)
 
 pub not-class-5 : (place : ℕ) → place < 6 → classAt place ≡ 5 → ⊥
 not-class-5 place h = in-range place (ltb place 4) refl h .2

@@ -3,7 +3,7 @@ use Prim.Native.Nat.{_+_, _/_, _%_}
 use native.Mathlib.Omega.{arith}
 use borrow.Author.Needs.{needs}
 use Rattle.book_entries.specs.Book.{classAt, entryOf}
-use Rattle.book_entries.proofs.Book.{class-driven, not-class-5, factor-curve}
+use Rattle.book_entries.proofs.Book.{driven-roads, not-class-5, factor-curve}
 use Rattle.book_entries.proofs.entry_of.Statement.{statement}
 use Rattle.book_entries.proofs.entry_of.Tie as tie
 
@@ -14,10 +14,7 @@ add-v : tie.Need-add-v
 add-v c = search needs
 
 curve-factors-requires : tie.Need-curve-factors-requires
-curve-factors-requires c κs =
-    let i = c .before .args .i in
-    let d = class-driven (i / 605) (10 + i % 121) (omega arith) (omega arith) (omega arith) in
-    rw (c .class-at .ensures) ((d, d, d), not-class-5 (i / 605) (omega arith))
+curve-factors-requires c κs = rw (c .class-at .ensures) (driven-roads _ _ (omega arith) (omega arith) (omega arith))
 
 mul-result : tie.Need-mul-result
 mul-result c = search needs
