@@ -89,7 +89,7 @@ status=0
 as_it_must "tests/run.sh, an unknown part" "$status, $(grep -c 'there is no part no_such_part; the parts are: ' "$room/out")" "1, 1"
 
 # Each tool, where it is missing, is told by its name.
-tools="rt gcc g++ ar nm rustc python3"
+tools="rt gcc g++ ar nm objdump rustc python3"
 for tool in $tools; do
     rm -rf "$room/few"
     mkdir "$room/few"
