@@ -4,7 +4,7 @@
 
 entries   crates/factorbook/stdout against tools/reference.py, and the generated sources against it (tools/book.py --check)
 table     tools/factors.py prints every factor of every class in g/km, and says what it cannot print
-callers   the generator alone asks the curves; the constant is named once, and `page_at` called once
+callers   the generator alone asks the curves, and reaches no crate of the constant, which is named once; `page_at` is called once
 folded    in each object of the archive that adds, the compiler made the lookup tables of the book, 10 of 362 numbers, and in the
           others none. Where they are missing the whole book is built anew at each add: no proof sees that, only the clock does
 
@@ -66,6 +66,18 @@ def table():
     return None
 
 
+def reached(crate):
+    """The crates below a crate, by crates.txt."""
+    with open(os.path.join(ROOT, "crates.txt"), encoding="utf-8") as file:
+        below = {name: words.split() for name, words in re.findall(r"^(\w+):(.*)$", file.read(), re.M)}
+    found, left = set(), [crate]
+    while left:
+        new = set(below.get(left.pop(), [])) - found
+        found |= new
+        left += new
+    return found
+
+
 def callers():
     sources = {}
     for path in glob.glob(os.path.join(ROOT, "crates", "*", "src", "**", "*.rt"), recursive=True):
@@ -85,7 +97,8 @@ def callers():
     ):
         if named(pattern) != wanted:
             return "%s stands in %s and not in %s" % (pattern, named(pattern), wanted)
-    return None
+    below = reached("factorbook")
+    return "factorbook reaches the constant by %s" % below if {"book", "book_pages"} & below else None
 
 
 def lookup_tables(path):

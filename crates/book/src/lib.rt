@@ -1,26 +1,32 @@
 // The factor book, and the 15 factors of a record read from it.
 ghost use mathlib.Core.Path.{_≡_};
 ghost use mathlib.Core.List.{[], _∷_};
-ghost use Prim.Native.Nat.{_≤_, _<_};
+ghost use Prim.Native.Nat.{_-_, _≤_, _<_};
 ghost use lib.ListN.{getD};
 ghost use Rattle.units.specs.Lists.{tab};
 ghost use Rattle.factors.specs.Factors.{Driven, factorAt};
 ghost use Rattle.book_entries.specs.Book.{book, placeOf};
-ghost use Rattle.book_lines.specs.Lines.{pageOf};
-ghost use Rattle.book.specs.Line.{factorLine};
+ghost use Rattle.book_lines.specs.Lines.{lineOf, pageOf};
 
 mod entries; // entries.rt: the constant BOOK
 
 use units::Speed;
 
-// Page n of the book. The one place that names the constant and calls `page_at`: with a second one the compiler builds the whole
-// table at each add (docs/PERFORMANCE.md); tests/book.py tells.
+// The constant is the book: the one place that names it, and the one test of its 3,630 entries.
+fn factor_book() -> [u64; 3630]
+    ensures { λ r. ⌜ r ≡ book ⌝ }
+{
+    entries::BOOK
+}
+
+// Page n of the book. With a second caller of `factor_book` or `page_at` the compiler would build the whole constant at each add
+// (docs/PERFORMANCE.md); tests/book.py tells.
 fn page_of(n: usize) -> [[u64; 5]; 2]
     requires { ⌜ n < 363 ⌝ }
     ensures { λ r. ⌜ r ≡ pageOf book n ⌝ }
 {
-    let t = &entries::BOOK;
-    book_pages::page_at(t, n)
+    let t = factor_book();
+    book_pages::page_at(&t, n)
 }
 
 // The place of a class in the book.
@@ -34,11 +40,11 @@ fn place_of(class: u64) -> usize
     (class - 2) as usize
 }
 
-// The five factors of a class at a speed; a page holds two classes.
+// The line of a class at a speed; a page holds two.
 fn line_of(class: u64, v: Speed) -> [u64; 5]
     requires { ⌜ Driven class (v .0) ⌝ }
     requires { ⌜ (class ≡ 5 → ⊥) ⌝ }
-    ensures { λ r. ⌜ r ≡ factorLine class (v .0) ⌝ }
+    ensures { λ r. ⌜ r ≡ lineOf book (placeOf class) (v .0 - 10) ⌝ }
 {
     let place = place_of(class);
     let k = (v.0 - 10) as usize;
@@ -63,7 +69,7 @@ fn speed_on(road: usize, urban: Speed, rural: Speed, highway: Speed) -> Speed
 }
 
 // The 15 factors of a class: 5 quantities of 3 roads, each road at its own speed; class 5 is not in the book. The loop keeps
-// `line_of` at one call, so that the compiler draws it in.
+// `line_of` at one call, so that the compiler inlines it.
 pub fn factors_of(class: u64, urban: Speed, rural: Speed, highway: Speed) -> [u64; 15]
     requires { ⌜ Driven class (urban .0) × Driven class (rural .0) × Driven class (highway .0) ⌝ }
     ensures { λ r. ⌜ r ≡ tab (factorAt class (urban .0) (rural .0) (highway .0)) 15 ⌝ }

@@ -2,7 +2,7 @@
 use mathlib.Core.Path.{_≡_, refl, ap, _∙_}
 use mathlib.Core.Bool.{Bool, true, false}
 use mathlib.Core.List.{List}
-use Prim.Native.Nat.{ℕ, _+_, _*_, _-_, _/_, _%_, _≤_, _<_}
+use Prim.Native.Nat.{ℕ, zero, suc, _+_, _*_, _-_, _/_, _%_, _≤_, _<_}
 use native.Mathlib.Omega.{arith}
 use lib.Dec.{ltb}
 use lib.IntN.{pos, natAbs}
@@ -17,37 +17,62 @@ use Rattle.book_entries.specs.Claim.{BookClaim}
 
 -- ---- the classes of the book
 
+pub class-low : (place : ℕ) → place < 4 → classAt place ≡ place + 1
+unfolding classAt
+class-low zero h = refl
+class-low (suc zero) h = refl
+class-low (suc (suc zero)) h = refl
+class-low (suc (suc (suc zero))) h = refl
+class-low (suc (suc (suc (suc n)))) h = absurd (omega arith)
+
+pub class-high : (place : ℕ) → 4 ≤ place → place < 6 → classAt place ≡ place + 2
+unfolding classAt
+class-high zero l h = absurd (omega arith)
+class-high (suc zero) l h = absurd (omega arith)
+class-high (suc (suc zero)) l h = absurd (omega arith)
+class-high (suc (suc (suc zero))) l h = absurd (omega arith)
+class-high (suc (suc (suc (suc zero)))) l h = refl
+class-high (suc (suc (suc (suc (suc zero))))) l h = refl
+class-high (suc (suc (suc (suc (suc (suc n)))))) l h = absurd (omega arith)
+
 -- a class has a place, and the place that class
 abbrev pub Placed : ℕ → Type 0
 Placed class = (placeOf class < 6) × (classAt (placeOf class) ≡ class)
 
-by-test : (class : ℕ) (b : Bool) → ltb class 5 ≡ b → 1 ≤ class → class ≤ 7 → (class ≡ 5 → ⊥) → Placed class
-unfolding placeOf classAt
-by-test class true e low high n =
+by-class : (class : ℕ) (b : Bool) → ltb class 5 ≡ b → 1 ≤ class → class ≤ 7 → (class ≡ 5 → ⊥) → Placed class
+unfolding placeOf
+by-class class true e low high n =
     let h = ltb-true class 5 e in
-    rw (e, lt-ltb (class - 1) 4 (omega arith)) (omega arith, omega arith)
-by-test class false e low high n =
+    let c = class-low (class - 1) (omega arith) in
+    rw e (omega arith, omega (arith, c))
+by-class class false e low high n =
     let h = ltb-false class 5 e in
-    rw (e, le-ltb (class - 2) 4 (omega (arith, n))) (omega arith, omega arith)
+    let c = class-high (class - 2) (omega (arith, n)) (omega arith) in
+    rw e (omega arith, omega (arith, c))
 
 pub placed : (class v : ℕ) → Driven class v → (class ≡ 5 → ⊥) → Placed class
-placed class v d n = by-test class (ltb class 5) refl (omega arith) (omega arith) n
+placed class v d n = by-class class (ltb class 5) refl (omega arith) (omega arith) n
 
 -- the class at a place is one with curves
-in-range : (place : ℕ) (b : Bool) → ltb place 4 ≡ b → place < 6 → (1 ≤ classAt place) × (classAt place ≤ 7) × (classAt place ≡ 5 → ⊥)
-unfolding classAt
-in-range place true e h = let l = ltb-true place 4 e in rw e (omega arith, omega arith, λ (f : place + 1 ≡ 5). absurd (omega (arith, l, f)))
-in-range place false e h = let l = ltb-false place 4 e in rw e (omega arith, omega arith, λ (f : place + 2 ≡ 5). absurd (omega (arith, l, f)))
+by-place : (place : ℕ) (b : Bool) → ltb place 4 ≡ b → place < 6 → (1 ≤ classAt place) × (classAt place ≤ 7) × (classAt place ≡ 5 → ⊥)
+by-place place true e h =
+    let l = ltb-true place 4 e in
+    let c = class-low place l in
+    (omega (arith, c), omega (arith, c), λ (f : classAt place ≡ 5). absurd (omega (arith, c, f)))
+by-place place false e h =
+    let l = ltb-false place 4 e in
+    let c = class-high place l h in
+    (omega (arith, c), omega (arith, c), λ (f : classAt place ≡ 5). absurd (omega (arith, c, f)))
+
+pub in-range : (place : ℕ) → place < 6 → (1 ≤ classAt place) × (classAt place ≤ 7) × (classAt place ≡ 5 → ⊥)
+in-range place h = by-place place (ltb place 4) refl h
 
 -- what the curves ask for at one speed on all roads
 pub driven-roads : (place v : ℕ) → place < 6 → 10 ≤ v → v ≤ 130 → (Driven (classAt place) v × Driven (classAt place) v × Driven (classAt place) v) × (classAt place ≡ 5 → ⊥)
 driven-roads place v h low high =
-    let c = in-range place (ltb place 4) refl h in
+    let c = in-range place h in
     let d : Driven (classAt place) v = record { class-low = c .0; class-high = c .1; speed-low = low; speed-high = high } in
     ((d, d, d), c .2)
-
-pub not-class-5 : (place : ℕ) → place < 6 → classAt place ≡ 5 → ⊥
-not-class-5 place h = in-range place (ltb place 4) refl h .2
 
 -- ---- an entry
 
@@ -69,6 +94,12 @@ book-length : length book ≡ 3630
 unfolding book
 book-length = tab-length entryOf 3630
 
+every-entry : (i : ℕ) → i < 3630 → pos (getD book i 0) ≡ curve (classAt (i / 605)) (i / 121 % 5) (10 + i % 121)
+unfolding entryOf
+every-entry i h =
+    let d = driven-roads (i / 605) (10 + i % 121) (omega arith) (omega arith) (omega arith) in
+    ap pos (book-at i h) ∙ curve-kept (classAt (i / 605)) (i / 121 % 5) (10 + i % 121) (d .0 .0) (omega arith)
+
 entry-curve : (class quantity v : ℕ) → Driven class v → (class ≡ 5 → ⊥) → quantity < 5 → pos (getD book (entryPlace (placeOf class) quantity (v - 10)) 0) ≡ curve class quantity v
 entry-curve class quantity v d n h = ap pos (book-curve class quantity v d n h) ∙ curve-kept class quantity v d h
 
@@ -82,4 +113,4 @@ unfolding emissionFactor
 factor-curve class quantity v f e n h = factor-read class v v v f quantity 0 (quantity * 3) e h (omega arith) (omega arith) ∙ rw (ne-eqb class 5 n) refl
 
 pub book-claim : BookClaim
-book-claim = record { entries = book-length; entry-curve = entry-curve; entry-factor = entry-factor }
+book-claim = record { entries = book-length; every-entry = every-entry; entry-curve = entry-curve; entry-factor = entry-factor }

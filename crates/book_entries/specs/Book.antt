@@ -3,17 +3,18 @@
 -- Assumes nothing.
 use Prim.Native.Nat.{ℕ, _+_, _*_, _-_, _/_, _%_}
 use mathlib.Core.Bool.{cond}
-use mathlib.Core.List.{List}
+use mathlib.Core.List.{List, [], _∷_}
 use lib.Dec.{ltb}
 use lib.IntN.{natAbs}
+use lib.ListN.{getD}
 use Rattle.units.specs.Lists.{tab}
 use Rattle.factors.specs.Factors.{curve}
 
--- the six classes of the book: the class at a place, 0 to 5
+-- the classes of the book, by place: every class but 5
 unfoldable pub classAt : ℕ → ℕ
-classAt place = cond (ltb place 4) (place + 1) (place + 2)
+classAt place = getD (1 ∷ 2 ∷ 3 ∷ 4 ∷ 6 ∷ 7 ∷ []) place 0
 
--- and the place of a class
+-- the place of a class
 unfoldable pub placeOf : ℕ → ℕ
 placeOf class = cond (ltb class 5) (class - 1) (class - 2)
 

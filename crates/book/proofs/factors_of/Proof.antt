@@ -1,6 +1,5 @@
 -- `book::factors_of` meets its contract. Assumes nothing.
 use mathlib.Core.Path.{refl, _∙_}
-use mathlib.Core.List.{[]}
 use Prim.Native.Nat.{_-_, _≤_}
 use native.Mathlib.Omega.{arith}
 use borrow.Author.Needs.{needs}
@@ -106,9 +105,9 @@ array-read-t68 c = search needs
 returns-2 : tie.Need-returns-2 Inv-loop μ-loop
 unfolding tab
 returns-2 c =
-    let s = c .before .before .before .before .before .before .args in
+    let s = c .before .before .before .before .before .before in
     let lines = filled (c .before .before .before .before .loop .inv .1) (omega arith) (omega arith) in
-    lines-factors (s .class) (s .urban .0) (s .rural .0) (s .highway .0) _ (c .before .before .before .before .before .if1 .left) lines
+    lines-factors (s .args .class) _ _ _ _ (s .pre .0) (s .pre .1) (s .pre .2) (c .before .before .before .before .before .if1 .left) lines
 
 pub factors-of-spec : {M : Type 1} → statement M
 factors-of-spec =

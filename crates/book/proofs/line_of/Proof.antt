@@ -1,8 +1,9 @@
 -- `book::line_of` meets its contract. Assumes nothing.
 use native.Mathlib.Omega.{arith}
 use borrow.Author.Needs.{needs}
+use Rattle.book_entries.specs.Book.{book}
 use Rattle.book_entries.proofs.Book.{placed}
-use Rattle.book.proofs.Lines.{class-line}
+use Rattle.book.proofs.Lines.{page-line}
 use Rattle.book.proofs.line_of.Statement.{statement}
 use Rattle.book.proofs.line_of.Tie as tie
 
@@ -37,7 +38,7 @@ returns : tie.Need-returns
 returns c =
     let s = c .before .before .before .before .before in
     let e = c .before .before .before .before .place-of .ensures in
-    class-line (s .args .class) _ 0 _ (s .pre .0) (s .pre .1) (rw e at (c .before .before .page-of .ensures)) (rw e at (c .before .if1 .taken))
+    page-line book _ _ _ 0 (rw e at (c .before .before .page-of .ensures)) (omega (arith, s .pre .0 .speed-high)) (rw e at (c .before .if1 .taken))
 
 array-copy-out-result-2 : tie.Need-array-copy-out-result-2
 array-copy-out-result-2 c = search needs
@@ -46,7 +47,7 @@ returns-2 : tie.Need-returns-2
 returns-2 c =
     let s = c .before .before .before .before .before in
     let e = c .before .before .before .before .place-of .ensures in
-    class-line (s .args .class) _ 1 _ (s .pre .0) (s .pre .1) (rw e at (c .before .before .page-of .ensures)) (omega (arith, e, c .before .if1 .left))
+    page-line book _ _ _ 1 (rw e at (c .before .before .page-of .ensures)) (omega (arith, s .pre .0 .speed-high)) (omega (arith, e, c .before .if1 .left))
 
 pub line-of-spec : {M : Type 1} → statement M
 line-of-spec =

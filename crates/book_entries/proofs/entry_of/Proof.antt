@@ -3,7 +3,7 @@ use Prim.Native.Nat.{_+_, _/_, _%_}
 use native.Mathlib.Omega.{arith}
 use borrow.Author.Needs.{needs}
 use Rattle.book_entries.specs.Book.{classAt, entryOf}
-use Rattle.book_entries.proofs.Book.{driven-roads, not-class-5, factor-curve}
+use Rattle.book_entries.proofs.Book.{in-range, driven-roads, factor-curve}
 use Rattle.book_entries.proofs.entry_of.Statement.{statement}
 use Rattle.book_entries.proofs.entry_of.Tie as tie
 
@@ -29,7 +29,7 @@ returns : tie.Need-returns
 unfolding entryOf
 returns c =
     let i = c .before .before .args .i in
-    factor-curve (classAt (i / 605)) (i / 121 % 5) (10 + i % 121) _ (rw (c .before .class-at .ensures) at (c .curve-factors .ensures)) (not-class-5 (i / 605) (omega arith)) (omega arith)
+    factor-curve (classAt (i / 605)) (i / 121 % 5) (10 + i % 121) _ (rw (c .before .class-at .ensures) at (c .curve-factors .ensures)) (in-range (i / 605) (omega arith) .2) (omega arith)
 
 pub entry-of-spec : {M : Type 1} → statement M
 entry-of-spec =
