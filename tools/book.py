@@ -7,6 +7,7 @@ The entries are the lines of crates/factorbook/stdout. The arms are the pages of
 classes and its speed; no number of the book is in them.
 """
 import os
+import re
 import sys
 
 ROOT = os.path.normpath(os.path.join(os.path.dirname(os.path.abspath(__file__)), ".."))
@@ -38,16 +39,24 @@ pub fn page_at(t: &[u64; {count}], n: usize) -> [[u64; 5]; 2]
 """
 
 
+class BookError(Exception):
+    """Why there is no book, and what to do."""
+
+
 def book():
     """The entries, by class, quantity and speed."""
-    try:
-        with open(BOOK, encoding="ascii") as file:
-            lines = file.read().splitlines()
-    except OSError as error:
-        sys.exit("crates/factorbook/stdout cannot be read: %s" % error.strerror)
     count = len(CLASSES) * len(QUANTITIES) * len(SPEEDS)
-    if len(lines) != count:
-        sys.exit("crates/factorbook/stdout has %d lines and not %d" % (len(lines), count))
+    again = "; bring back the file of the repository, or write it anew: rt check factorbook; target/bin/factorbook > crates/factorbook/stdout"
+    try:
+        with open(BOOK, "rb") as file:
+            *lines, rest = file.read().split(b"\n")
+    except OSError as error:
+        raise BookError("crates/factorbook/stdout cannot be read: %s%s" % (error.strerror, again))
+    for number, line in enumerate(lines, 1):
+        if not re.fullmatch(rb"0|[1-9][0-9]*", line):
+            raise BookError("crates/factorbook/stdout, line %d: %r is not a number of the book%s" % (number, line.decode("latin-1"), again))
+    if len(lines) != count or rest:
+        raise BookError("crates/factorbook/stdout has %d lines%s and not %d%s" % (len(lines), " and a part of one" if rest else "", count, again))
     keys = [(c, q, v) for c in CLASSES for q in QUANTITIES for v in SPEEDS]
     return dict(zip(keys, map(int, lines)))
 
@@ -69,20 +78,28 @@ def pages(table):
 
 
 def main():
+    if sys.argv[1:] in (["-h"], ["--help"]):
+        print(__doc__.strip())
+        return None
     if sys.argv[1:] not in ([], ["--check"]):
-        sys.exit(__doc__)
-    table = book()
-    files = {"crates/book/src/entries.rt": entries(table), "crates/book_pages/src/lib.rt": pages(table)}
-    for name, text in files.items():
-        path = os.path.join(ROOT, name)
-        if sys.argv[1:] == ["--check"]:
-            with open(path, encoding="utf-8") as file:
-                if file.read() != text:
-                    sys.exit("%s is not what tools/book.py makes of crates/factorbook/stdout" % name)
-        else:
-            with open(path, "w", encoding="utf-8") as file:
-                file.write(text)
+        return "tools/book.py: %s is not known; it takes --check or nothing" % " ".join(sys.argv[1:])
+    try:
+        table = book()
+        for name, text in {"crates/book/src/entries.rt": entries(table), "crates/book_pages/src/lib.rt": pages(table)}.items():
+            path = os.path.join(ROOT, name)
+            if sys.argv[1:] != ["--check"]:
+                with open(path, "wb") as file:
+                    file.write(text.encode())
+                continue
+            with open(path, "rb") as file:
+                if file.read() != text.encode():
+                    return "tools/book.py: %s is not made of crates/factorbook/stdout; write it anew: python3 tools/book.py" % name
+    except BookError as error:
+        return "tools/book.py: %s" % error
+    except OSError as error:
+        return "tools/book.py: %s: %s" % (error.filename, error.strerror)
+    return None
 
 
 if __name__ == "__main__":
-    main()
+    sys.exit(main())

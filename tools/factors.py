@@ -2,8 +2,8 @@
 
     python3 tools/factors.py CLASS        CLASS is 1, 2, 3, 4, 6 or 7
 
-The figures are those of crates/factorbook/stdout, all of their seven decimals; nothing is computed here. Exits 2 where no
-table is printed, and says why.
+The figures are those of crates/factorbook/stdout, with all of their seven decimals; nothing is computed here. Exits 2 where the
+table is not printed whole, and says why.
 """
 import sys
 
@@ -34,18 +34,26 @@ def table(cls):
 
 
 def refused(why):
-    print("tools/factors.py: " + why, file=sys.stderr)
+    print("tools/factors.py: %s" % why, file=sys.stderr)
     sys.exit(2)
 
 
 def main():
+    if sys.argv[1:] in (["-h"], ["--help"]):
+        print(__doc__.strip())
+        return
     if len(sys.argv) != 2:
         refused("give one class: python3 tools/factors.py 6")
     if sys.argv[1] == "5":
         refused("class 5 has no factors by speed; its figures by road are in docs/SPECIFICATION.md, \"Hot factors\"")
     if sys.argv[1] not in map(str, VEHICLES):
         refused("the factor book has no class %r; its classes are 1, 2, 3, 4, 6 and 7" % sys.argv[1])
-    text = table(int(sys.argv[1]))
+    try:
+        text = table(int(sys.argv[1]))
+    except book.BookError as error:
+        refused(error)
+    if sys.stdout is None:
+        refused("standard output is closed")
     try:
         sys.stdout.write(text)
         sys.stdout.flush()

@@ -1,5 +1,5 @@
 """The inventory in exact whole numbers, written from the customer's request alone: "COPERT II inventory core", its
-document 01, and the jobs of its document 02 that have landed (1), of which docs/SPECIFICATION.md says the same in our own
+document 01, and the jobs of its document 02 that have landed (1, 2), of which docs/SPECIFICATION.md says the same in our own
 words. Nothing here comes from the Rattle code. Lists of records, and the number and line beside a text, are from
 SPECIFICATION, "Lists of records" and "Report".
 
