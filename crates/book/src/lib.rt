@@ -19,7 +19,7 @@ fn factor_book() -> [u64; 3630]
     entries::BOOK
 }
 
-// Page n of the book. With a second caller of `factor_book` or `page_at` the compiler would build the whole constant at each add
+// Page n of the book. With a second caller of `page_at` the compiler would build the whole constant at each add
 // (docs/PERFORMANCE.md); tests/book.py tells.
 fn page_of(n: usize) -> [[u64; 5]; 2]
     requires { ⌜ n < 363 ⌝ }
