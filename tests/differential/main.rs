@@ -350,8 +350,8 @@ fn one_x(held: &mut Held, r: &mut Random, run: c::Run, place: usize) {
     }
 }
 
-/// Every class on every road at every speed: by adds, as a list and as a sheet.
-fn every_factor(held: &mut Held, r: &mut Random) {
+/// Every class on every road at every speed: by adds, as a list and as a sheet. How many runs were added to.
+fn every_factor(held: &mut Held, r: &mut Random) -> u64 {
     let head = plain::Head { trip: 120, temps: [100; 12] };
     for class in 1..=7 {
         let mut records = Vec::new();
@@ -371,6 +371,7 @@ fn every_factor(held: &mut Held, r: &mut Random) {
         ask_list(held, &head, &records.iter().flat_map(numbers).collect::<Vec<_>>());
         ask_sheet(held, r, &text, 0);
     }
+    7
 }
 
 // ---- Questions
@@ -757,7 +758,7 @@ fn main() {
     class_3(&mut held, &mut r, 9_000 / part);
     sheets(&mut held, &mut r, 205_000 / part);
     lists(&mut held, &mut r, 60_000 / part, small);
-    every_factor(&mut held, &mut r);
+    runs += every_factor(&mut held, &mut r);
 
     println!("runs opened and added to: {runs}, of them full: {full}; runs in order made up: {made}; runs out of order: {}", held.out_of_order);
     println!("adds: {}; sheets: {}; buffers compared whole: {}; figures not given: {}", held.of(ADD), held.of(SHEET), held.buffers, held.not_given);

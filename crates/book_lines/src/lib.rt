@@ -27,7 +27,8 @@ fn line_at(t: &[u64; 3630], place: usize, k: usize) -> [u64; 5]
     ]
 }
 
-// Page n, which is speed 10 + k of a pair of classes. Who calls it knows the pair and k as constants: every place read is one.
+// Page n, which is speed 10 + k of a pair of classes. Who calls it knows the pair and k as constants, so that every place that is
+// read is one; n is there for the contract alone.
 pub fn page_from(t: &[u64; 3630], n: usize, pair: usize, k: usize) -> [[u64; 5]; 2]
     requires { ⌜ n ≡ pair * 121 + k ⌝ }
     requires { ⌜ (pair < 3) × (k < 121) ⌝ }
