@@ -7,7 +7,7 @@ use native.Mathlib.Omega.{arith}
 use lib.Dec.{ltb}
 use lib.IntN.{pos, natAbs}
 use lib.ListN.{length, getD}
-use borrow.Author.Tests.{ne-eqb, lt-ltb, le-ltb, ltb-true, ltb-false}
+use borrow.Author.Tests.{ne-eqb, ltb-true, ltb-false}
 use Rattle.units.specs.Lists.{tab}
 use Rattle.units.proofs.Tab.{tab-at, tab-length}
 use Rattle.factors.specs.Factors.{Driven, curve, emissionFactor, factorAt}
@@ -17,23 +17,23 @@ use Rattle.book_entries.specs.Claim.{BookClaim}
 
 -- ---- the classes of the book
 
-pub class-low : (place : ℕ) → place < 4 → classAt place ≡ place + 1
+pub first-four : (place : ℕ) → place < 4 → classAt place ≡ place + 1
 unfolding classAt
-class-low zero h = refl
-class-low (suc zero) h = refl
-class-low (suc (suc zero)) h = refl
-class-low (suc (suc (suc zero))) h = refl
-class-low (suc (suc (suc (suc n)))) h = absurd (omega arith)
+first-four zero h = refl
+first-four (suc zero) h = refl
+first-four (suc (suc zero)) h = refl
+first-four (suc (suc (suc zero))) h = refl
+first-four (suc (suc (suc (suc n)))) h = absurd (omega arith)
 
-pub class-high : (place : ℕ) → 4 ≤ place → place < 6 → classAt place ≡ place + 2
+pub last-two : (place : ℕ) → 4 ≤ place → place < 6 → classAt place ≡ place + 2
 unfolding classAt
-class-high zero l h = absurd (omega arith)
-class-high (suc zero) l h = absurd (omega arith)
-class-high (suc (suc zero)) l h = absurd (omega arith)
-class-high (suc (suc (suc zero))) l h = absurd (omega arith)
-class-high (suc (suc (suc (suc zero)))) l h = refl
-class-high (suc (suc (suc (suc (suc zero))))) l h = refl
-class-high (suc (suc (suc (suc (suc (suc n)))))) l h = absurd (omega arith)
+last-two zero l h = absurd (omega arith)
+last-two (suc zero) l h = absurd (omega arith)
+last-two (suc (suc zero)) l h = absurd (omega arith)
+last-two (suc (suc (suc zero))) l h = absurd (omega arith)
+last-two (suc (suc (suc (suc zero)))) l h = refl
+last-two (suc (suc (suc (suc (suc zero))))) l h = refl
+last-two (suc (suc (suc (suc (suc (suc n)))))) l h = absurd (omega arith)
 
 -- a class has a place, and the place that class
 abbrev pub Placed : ℕ → Type 0
@@ -43,11 +43,11 @@ by-class : (class : ℕ) (b : Bool) → ltb class 5 ≡ b → 1 ≤ class → cl
 unfolding placeOf
 by-class class true e low high n =
     let h = ltb-true class 5 e in
-    let c = class-low (class - 1) (omega arith) in
+    let c = first-four (class - 1) (omega arith) in
     rw e (omega arith, omega (arith, c))
 by-class class false e low high n =
     let h = ltb-false class 5 e in
-    let c = class-high (class - 2) (omega (arith, n)) (omega arith) in
+    let c = last-two (class - 2) (omega (arith, n)) (omega arith) in
     rw e (omega arith, omega (arith, c))
 
 pub placed : (class v : ℕ) → Driven class v → (class ≡ 5 → ⊥) → Placed class
@@ -57,11 +57,11 @@ placed class v d n = by-class class (ltb class 5) refl (omega arith) (omega arit
 by-place : (place : ℕ) (b : Bool) → ltb place 4 ≡ b → place < 6 → (1 ≤ classAt place) × (classAt place ≤ 7) × (classAt place ≡ 5 → ⊥)
 by-place place true e h =
     let l = ltb-true place 4 e in
-    let c = class-low place l in
+    let c = first-four place l in
     (omega (arith, c), omega (arith, c), λ (f : classAt place ≡ 5). absurd (omega (arith, c, f)))
 by-place place false e h =
     let l = ltb-false place 4 e in
-    let c = class-high place l h in
+    let c = last-two place l h in
     (omega (arith, c), omega (arith, c), λ (f : classAt place ≡ 5). absurd (omega (arith, c, f)))
 
 pub in-range : (place : ℕ) → place < 6 → (1 ≤ classAt place) × (classAt place ≤ 7) × (classAt place ≡ 5 → ⊥)
@@ -80,7 +80,7 @@ book-at : (i : ℕ) → i < 3630 → getD book i 0 ≡ entryOf i
 unfolding book
 book-at i h = tab-at 0 entryOf 3630 i h
 
-pub book-curve : (class quantity v : ℕ) → Driven class v → (class ≡ 5 → ⊥) → quantity < 5 → getD book (entryPlace (placeOf class) quantity (v - 10)) 0 ≡ natAbs (curve class quantity v)
+book-curve : (class quantity v : ℕ) → Driven class v → (class ≡ 5 → ⊥) → quantity < 5 → getD book (entryPlace (placeOf class) quantity (v - 10)) 0 ≡ natAbs (curve class quantity v)
 unfolding entryOf
 book-curve class quantity v d n h =
     let p = placed class v d n in

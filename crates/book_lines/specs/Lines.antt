@@ -7,7 +7,7 @@ use lib.ListN.{getD}
 use Rattle.units.specs.Lists.{tab}
 use Rattle.book_entries.specs.Book.{entryPlace}
 
--- the five quantities of the class at a place, 0 to 5, at speed 10 + k
+-- a line: the five quantities of the class at a place, 0 to 5, at speed 10 + k
 unfoldable pub lineOf : List ℕ → ℕ → ℕ → List ℕ
 lineOf t place k = tab (λ quantity. getD t (entryPlace place quantity k) 0) 5
 
