@@ -1,7 +1,7 @@
 -- Each call has the number that the conditions of specs/Conditions give. Assumes nothing.
 use mathlib.Core.Path.{_≡_, refl, sym, _∙_}
 use mathlib.Core.Bool.{Bool, true, false, not, cond, _&&_, _||_}
-use mathlib.Core.List.{List}
+use mathlib.Core.List.{List, [], _∷_, _++_}
 use Prim.Native.Nat.{ℕ, zero, suc, _-_}
 use borrow.Author.Tests.{lt-ltb, le-ltb, leb-true, leb-false}
 use lib.Dec.{eqb, leb, ltb}
@@ -9,7 +9,7 @@ use lib.IntN.{ℤ, pos, negsuc, negℤ}
 use lib.ListN.{length, getD}
 use lib.Signed.{leZ, ltZ}
 use Rattle.units.specs.Lists.{allBelow}
-use Rattle.units.specs.Grounds.{firstFit, outside}
+use Rattle.units.specs.Grounds.{ground, firstFit, outside}
 use Rattle.coldstart.specs.ColdStart.{temperatureOk}
 use Rattle.inventory.specs.declared.Head.{Head}
 use Rattle.inventory.specs.declared.Record.{Record}
@@ -21,7 +21,7 @@ use Rattle.inventory.specs.Adding.{addGrounds, addNumber}
 use Rattle.inventory.specs.Printed.{answered, totalGrounds, totalOf}
 use Rattle.balance.specs.Balance.{balanceRatio, soldGrounds, balanceGrounds, balanceNumber, balanceOf, printedFuel}
 use Rattle.listing.specs.Report.{reportBytes, reportGrounds, reportNumber, reportOf}
-use Rattle.accuracy.specs.Conditions.{tripOut, monthOut, someOut, temperatureOut, classOut, vehiclesOut, kmOut, distanceOut, sharesOut, speedOut, runFull, fuelOrQuantityOut, noFuelUsed, soldFuelOut, bufferShort, recordNumber}
+use Rattle.accuracy.specs.Conditions.{tripOut, monthOut, someOut, temperatureOut, classOut, vehiclesOut, kmOut, distanceOut, sharesOut, speedOut, runFull, fuelOrQuantityOut, noFuelUsed, soldFuelOut, bufferShort, recordElse, recordNumber}
 use Rattle.accuracy.specs.Claim.{fuelTotal}
 
 -- ---- opening
@@ -70,10 +70,15 @@ by-fuel n true b f g = refl
 by-fuel n false true f g = refl
 by-fuel n false false f g = refl
 
+-- a record's own grounds, then a last one
+pub record-else : (rec : Record) (k : ℕ) (b : Bool) → firstFit (recordGrounds rec ++ (ground k b ∷ [])) ≡ recordElse (cond b k 0) rec
+unfolding recordGrounds firstFit outside vehicleKm sharesWrong speedsWrong recordElse classOut vehiclesOut kmOut distanceOut sharesOut speedOut
+record-else rec k b = refl
+
 module _ (run : Run) (order : inOrder run ≡ true) where
   pub adds : (rec : Record) → addNumber run rec ≡ recordNumber (run .count) rec
-  unfolding addNumber addGrounds recordGrounds firstFit outside vehicleKm sharesWrong speedsWrong recordNumber classOut vehiclesOut kmOut distanceOut sharesOut speedOut runFull
-  adds rec = rw order
+  unfolding addNumber addGrounds firstFit recordNumber runFull
+  adds rec = rw order (record-else rec 9 (leb 5000 (run .count)))
 
   pub totals : (fuel quantity : ℕ) → totalOf run fuel quantity .number ≡ cond (fuelOrQuantityOut fuel quantity) 11 0
   unfolding totalOf answered totalGrounds firstFit outside fuelOrQuantityOut

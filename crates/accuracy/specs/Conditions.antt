@@ -76,13 +76,16 @@ soldFuelOut s f = ltb 999999999 s || (ltb (soldRatio s f) 500000 || ltb 1500000 
 unfoldable pub bufferShort : ℕ → ℕ → Bool
 bufferShort buffer report = ltb buffer report
 
--- the number of adding a record where so many were taken: the first of 3 to 8 that fits, then 9, else 0
-unfoldable pub recordNumber : ℕ → Record → ℕ
-recordNumber count rec =
+-- the first of 3 to 8 that fits a record, else what comes behind them
+unfoldable pub recordElse : ℕ → Record → ℕ
+recordElse behind rec =
     cond (classOut (rec .class)) 3
     (cond (vehiclesOut (rec .vehicles)) 4
     (cond (kmOut (rec .km)) 5
     (cond (distanceOut (rec .vehicles) (rec .km)) 6
     (cond (sharesOut (rec .shares .urban) (rec .shares .rural) (rec .shares .highway)) 7
-    (cond (speedOut (rec .speeds .urban .0) || speedOut (rec .speeds .rural .0) || speedOut (rec .speeds .highway .0)) 8
-    (cond (runFull count) 9 0))))))
+    (cond (speedOut (rec .speeds .urban .0) || speedOut (rec .speeds .rural .0) || speedOut (rec .speeds .highway .0)) 8 behind)))))
+
+-- the number of adding a record where so many were taken: the first of 3 to 8 that fits, then 9, else 0
+unfoldable pub recordNumber : ℕ → Record → ℕ
+recordNumber count rec = recordElse (cond (runFull count) 9 0) rec

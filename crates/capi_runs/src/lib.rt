@@ -27,7 +27,7 @@ pub extern "C" fn haldurap_layout() -> Layout
     ensures { λ r. ⌜ r ≡ layoutOf ⌝ }
 {
     Layout {
-        version: 3,
+        version: 4,
         size: 1128,
     }
 }

@@ -7,7 +7,8 @@ use native.Mathlib.Omega.{arith}
 use lib.IntN.{ℤ, pos, negsuc, natAbs}
 use lib.ListN.{length, getD, take, drop, length-append}
 use lib.Seq.{take-at, drop-at, getD-append-add, drop-drop}
-use Rattle.units.specs.Lists.{tab, sumTo}
+use Rattle.units.specs.Lists.{tab}
+use Rattle.units.proofs.Sums.{sum-alike}
 use Rattle.units.specs.Grounds.{firstFit}
 use Rattle.units.proofs.Grounds.{passed}
 use Rattle.units.proofs.Tab.{tab-at, tab-alike}
@@ -160,11 +161,6 @@ records-taken run n (rec ∷ recs) t =
 fit-temperature : (t : ℤ) → natAbs t ≤ 400 → Fits 5 t
 fit-temperature (pos n) h = fit-pos 4 n (omega arith) (omega arith)
 fit-temperature (negsuc n) h = fit-neg 4 n (omega arith) (omega arith)
-
-sum-alike : (f g : ℕ → ℕ) (n : ℕ) → ((k : ℕ) → k < n → f k ≡ g k) → sumTo f n ≡ sumTo g n
-unfolding sumTo
-sum-alike f g zero h = refl
-sum-alike f g (suc n) h = rw (sum-alike f g n (λ k b. h k (omega arith)), h n (omega arith))
 
 module _ (head : Head) (z : openNumber head ≡ 0) where
   -- the head with its twelve temperatures alone, as a line says it

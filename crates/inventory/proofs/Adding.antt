@@ -10,7 +10,6 @@ use lib.Dec.{ltb, leb, eqb}
 use borrow.Author.Tests.{lt-ltb, le-ltb, lt-leb, le-leb, eq-eqb, ne-eqb, ltb-true, ltb-false}
 use Rattle.units.specs.declared.Grams.{Grams}
 use Rattle.units.specs.Grounds.{Ground, ground, firstFit}
-use Rattle.units.proofs.Grounds.{fit-append}
 use Rattle.classes.specs.Classes.{fuelOf, hasCold}
 use Rattle.factors.specs.Factors.{emissionFactor, Driven}
 use Rattle.classes.proofs.Classes.{x-below}
@@ -22,14 +21,10 @@ use Rattle.inventory.specs.declared.Run.{Run}
 use Rattle.inventory.specs.Records.{recordGrounds, vehicleKm, shareOf, speedOf}
 use Rattle.inventory.specs.Order.{inOrder, gramsIn, restIn, sumAt, recordLimit}
 use Rattle.inventory.specs.Limits.{RecordLimits, XLimits, RunLimits}
+use Rattle.inventory.proofs.Records.{record-taken}
 use Rattle.inventory.specs.Adding.{billionths, factorOf, hotPart, xOf, coldRate, coldPart, partOf, partAt, slotAfter, kmOf, addGrounds, addNumber}
 
 -- ---- the number of an add
-
-append-one : (a b : Bool) (n : ℕ) → eqb n 0 ≡ a → eqb (cond a (cond b 9 0) n) 0 ≡ (a && not b)
-append-one true true n e = refl
-append-one true false n e = refl
-append-one false b n e = e
 
 -- a test and its opposite
 room : (n b : ℕ) (t : Bool) → ltb n b ≡ t → not (leb b n) ≡ t
@@ -39,12 +34,9 @@ room n b false e = rw (le-leb b n (ltb-false n b e))
 -- on a run in order an add takes its record exactly where no ground of the record fits and there is room
 pub add-taken : (run : Run) (rec : Record) → inOrder run ≡ true
     → eqb (addNumber run rec) 0 ≡ (eqb (firstFit (recordGrounds rec)) 0 && ltb (run .count) recordLimit)
-unfolding addNumber addGrounds firstFit recordGrounds
+unfolding addNumber addGrounds firstFit
 add-taken run rec o =
-    rw (o, ← room (run .count) 5000 (ltb (run .count) 5000) refl) (rest)
-  where
-    rest : eqb (firstFit (recordGrounds rec ++ (ground 9 (leb 5000 (run .count)) ∷ []))) 0 ≡ (eqb (firstFit (recordGrounds rec)) 0 && not (leb 5000 (run .count)))
-    rest = rw (fit-append (recordGrounds rec) (ground 9 (leb 5000 (run .count)) ∷ []) tt) (append-one (eqb (firstFit (recordGrounds rec)) 0) (leb 5000 (run .count)) (firstFit (recordGrounds rec)) refl)
+    rw (o, ← room (run .count) 5000 (ltb (run .count) 5000) refl) (record-taken rec 9 (leb 5000 (run .count)) refl)
 
 -- ---- how much a record brings
 

@@ -1,15 +1,15 @@
 -- What a head and a record have that no ground fits. Assumes nothing.
 use mathlib.Core.Path.{_≡_, refl, ap, sym, _∙_}
-use mathlib.Core.Bool.{Bool, true, false, not, _||_, _&&_}
-use mathlib.Core.List.{List, [], _∷_}
+use mathlib.Core.Bool.{Bool, true, false, not, cond, _||_, _&&_}
+use mathlib.Core.List.{List, [], _∷_, _++_}
 use Prim.Native.Nat.{ℕ, zero, suc, _+_, _*_, _≤_, _<_}
 use native.Mathlib.Omega.{arith}
 use lib.ListN.{getD}
 use lib.Dec.{eqb, ltb}
 use borrow.Author.Tests.{ltb-false, not-true, not-false}
 use Rattle.units.specs.Lists.{allBelow}
-use Rattle.units.specs.Grounds.{firstFit, outside}
-use Rattle.units.proofs.Grounds.{passed}
+use Rattle.units.specs.Grounds.{ground, firstFit, outside}
+use Rattle.units.proofs.Grounds.{passed, fit-append}
 use Rattle.units.proofs.Tests.{or-false-left, or-false-right, inside-low, inside-high, at}
 use Rattle.factors.specs.Factors.{Driven}
 use Rattle.coldstart.specs.ColdStart.{Climate}
@@ -64,3 +64,19 @@ record-limits rec z =
       share = three (λ i. shareOf rec i ≤ 100) (ltb-false 100 _ (s .0)) (ltb-false 100 _ (s .1)) (ltb-false 100 _ (s .2));
       driven = three (λ i. Driven (rec .class) (speedOf rec i)) (driven _ (v .0)) (driven _ (v .1)) (driven _ (v .2));
     }
+
+-- ---- a record's own grounds, then a last one
+
+last-by : (a b : Bool) (k n : ℕ) → eqb k 0 ≡ false → eqb n 0 ≡ a → eqb (cond a (cond b k 0) n) 0 ≡ (a && not b)
+last-by true true k n h e = h
+last-by true false k n h e = refl
+last-by false b k n h e = e
+
+module _ (rec : Record) (k : ℕ) (b : Bool) where
+  -- the last decides where none of the others fits
+  pub record-then : firstFit (recordGrounds rec ++ (ground k b ∷ [])) ≡ cond (eqb (firstFit (recordGrounds rec)) 0) (cond b k 0) (firstFit (recordGrounds rec))
+  unfolding firstFit recordGrounds
+  record-then = fit-append (recordGrounds rec) (ground k b ∷ []) tt
+
+  pub record-taken : eqb k 0 ≡ false → eqb (firstFit (recordGrounds rec ++ (ground k b ∷ []))) 0 ≡ (eqb (firstFit (recordGrounds rec)) 0 && not b)
+  record-taken h = rw record-then (last-by (eqb (firstFit (recordGrounds rec)) 0) b k (firstFit (recordGrounds rec)) h refl)

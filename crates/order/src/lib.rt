@@ -8,7 +8,7 @@ use inventory::Run;
 use units::Grams;
 
 // Whether a sum of g grams and r billionths has its rest below the limit and is at most limit grams.
-fn sum_ok(limit: Grams, g: Grams, r: u64) -> bool
+pub fn sum_ok(limit: Grams, g: Grams, r: u64) -> bool
     ensures { λ b. ⌜ b ≡ sumWithin (limit .0) (g .0) r ⌝ }
 {
     if 1000000000 <= r {
@@ -43,10 +43,28 @@ fn each_sum_ok(run: Run) -> bool
 }
 
 // 0 only for a rest below its limit, without a branch: rest / 2 + 36,870,912 reaches 2^29 where rest is 10^9.
-fn rest_over(rest: u64) -> u64
+pub fn rest_over(rest: u64) -> u64
     ensures { λ r. ⌜ (r ≤ 34359738368) × (r ≡ 0 → rest < 1000000000) ⌝ }
 {
     (rest / 2 + 36870912) / 536870912
+}
+
+// Whether the sums of a run without records are in order: all are 0, which one `or` over them tells without a branch.
+fn no_sums_ok(run: Run) -> bool
+    requires { ⌜ run .count ≡ 0 ⌝ }
+    ensures { λ b. ⌜ b ≡ allBelow (sumOk run) 60 ⌝ }
+{
+    let mut any: u64 = 0;
+    let mut j: usize = 0;
+    while j < 60 {
+        let g = run.grams[j];
+        any = any | g.0 | run.rests[j];
+        j += 1;
+    }
+    if any == 0 {
+        return true;
+    }
+    each_sum_ok(run)
 }
 
 // Whether the sums are in order: sum by sum only where two sums over all 60 do not decide, which have no branch and are fast.
@@ -54,6 +72,9 @@ fn sums_ok(run: Run) -> bool
     requires { ⌜ run .count ≤ 5000 ⌝ }
     ensures { λ b. ⌜ b ≡ allBelow (sumOk run) 60 ⌝ }
 {
+    if run.count == 0 {
+        return no_sums_ok(run);
+    }
     let mut all: u64 = 0;
     let mut over: u64 = 0;
     let mut j: usize = 0;

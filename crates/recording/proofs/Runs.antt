@@ -11,7 +11,6 @@ use Rattle.units.specs.declared.Verdict.{Verdict}
 use Rattle.units.specs.declared.Verdict.the-variants.{Taken, Refused}
 use Rattle.units.specs.Grounds.{ground, firstFit}
 use Rattle.units.specs.Refusals.{refusalNumber, verdictNumber}
-use Rattle.units.proofs.Grounds.{fit-append}
 use Rattle.units.proofs.Refusals.{number-positive, taken-number, refused-number}
 use Rattle.coldstart.specs.ColdStart.{coldValues}
 use Rattle.inventory.specs.declared.Head.{Head}
@@ -19,6 +18,7 @@ use Rattle.inventory.specs.declared.Record.{Record}
 use Rattle.inventory.specs.declared.Run.{Run}
 use Rattle.inventory.specs.Records.{headGrounds, recordGrounds}
 use Rattle.inventory.specs.Order.{inOrder}
+use Rattle.inventory.proofs.Records.{record-then}
 use Rattle.inventory.specs.Opening.{emptyRun, freshRun, zeroRun, openNumber, openRun}
 use Rattle.inventory.specs.Adding.{runWith, orderedGrounds, addGrounds, addNumber, addRun}
 use Rattle.accuracy.specs.Claim.{runAfter}
@@ -57,8 +57,7 @@ fresh-made head z xs e h = rw (e, h)
 module _ (count : ℕ) (rec : Record) where
   -- on a run in order the record's own grounds come first, then 9
   in-turn : firstFit (orderedGrounds count rec) ≡ cond (eqb (firstFit (recordGrounds rec)) 0) (cond (leb 5000 count) 9 0) (firstFit (recordGrounds rec))
-  unfolding firstFit recordGrounds
-  in-turn = fit-append (recordGrounds rec) (ground 9 (leb 5000 count) ∷ []) tt
+  in-turn = record-then rec 9 (leb 5000 count)
 
   pub add-refused : (v : Verdict) (r : Refusal) → v ≡ Refused r → verdictNumber v ≡ firstFit (recordGrounds rec)
       → refusalNumber r ≡ firstFit (orderedGrounds count rec)

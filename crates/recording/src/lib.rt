@@ -77,7 +77,7 @@ pub fn add_verdict(count: u64, rec: Record) -> Verdict
 }
 
 // The run with a record that is taken.
-fn run_with(run: Run, rec: Record) -> Run
+pub fn run_with(run: Run, rec: Record) -> Run
     requires { ⌜ RecordLimits rec ⌝ }
     requires { ⌜ RunLimits run × (run .count < 5000) ⌝ }
     ensures { λ r. ⌜ r ≡ runWith run rec ⌝ }

@@ -14,8 +14,14 @@ Inv-loop run all₀ over₀ j₀ all over j = (j ≤ 60) × (all ≤ 28823037615
 abbrev μ-loop : tie.MeasureT-loop
 μ-loop run all₀ over₀ j₀ all over j = 60 - j
 
+no-sums-ok-requires : tie.Need-no-sums-ok-requires Inv-loop μ-loop
+no-sums-ok-requires c κs = search needs
+
+returns : tie.Need-returns Inv-loop μ-loop
+returns c = search needs
+
 loop-holds : tie.Need-loop-holds Inv-loop μ-loop
-loop-holds c = (search needs, omega arith, omega arith, seen-none (c .args .t1) _ _)
+loop-holds c = (search needs, omega arith, omega arith, seen-none (c .before .args .t1) _ _)
 
 mul-g : tie.Need-mul-g Inv-loop μ-loop
 mul-g c = search needs
@@ -45,19 +51,19 @@ loop-less : tie.Need-loop-less Inv-loop μ-loop
 loop-less c = search needs
 
 loop-again : tie.Need-loop-again Inv-loop μ-loop
-loop-again c = (omega arith, omega arith, omega arith, seen-more (c .before .before .before .before .before .before .args .t1) _ _ _ _ (c .before .before .before .before .before .loop .inv .3) (c .rest-over .ensures .1))
+loop-again c = (omega arith, omega arith, omega arith, seen-more (c .before .before .before .before .before .before .before .args .t1) _ _ _ _ (c .before .before .before .before .before .loop .inv .3) (c .rest-over .ensures .1))
 
-mul-if2 : tie.Need-mul-if2 Inv-loop μ-loop
-mul-if2 c = search needs
+mul-if3 : tie.Need-mul-if3 Inv-loop μ-loop
+mul-if3 c = search needs
 
-returns : tie.Need-returns Inv-loop μ-loop
-returns c = together (c .before .before .before .before .args .t1) _ _ _ (c .before .before .before .loop .inv .3) (omega arith) (omega arith) (omega arith)
+returns-2 : tie.Need-returns-2 Inv-loop μ-loop
+returns-2 c = together (c .before .before .before .before .before .args .t1) _ _ _ (c .before .before .before .loop .inv .3) (omega arith) (omega arith) (omega arith)
 
 each-sum-ok-requires : tie.Need-each-sum-ok-requires Inv-loop μ-loop
 each-sum-ok-requires c κs = search needs
 
-returns-2 : tie.Need-returns-2 Inv-loop μ-loop
-returns-2 c = search needs
+returns-3 : tie.Need-returns-3 Inv-loop μ-loop
+returns-3 c = search needs
 
 pub sums-ok-spec : {M : Type 1} → statement M
 sums-ok-spec =
@@ -65,6 +71,8 @@ sums-ok-spec =
     (tie.spec
     Inv-loop
     μ-loop
+    no-sums-ok-requires
+    returns
     loop-holds
     mul-g
     element-copy-out-g
@@ -76,7 +84,7 @@ sums-ok-spec =
     add-j
     loop-less
     loop-again
-    mul-if2
-    returns
+    mul-if3
+    returns-2
     each-sum-ok-requires
-    returns-2)
+    returns-3)

@@ -1,0 +1,4 @@
+pub mod OneAdd
+pub mod Kept
+pub mod References
+pub mod Lists

@@ -1,0 +1,44 @@
+// The exports for C, Rust and Python over areas, which the caller lends: its struct of sixteen runs and the common use is 2,257
+// numbers. Answers are a number and values.
+ghost use mathlib.Core.Path.{_≡_};
+ghost use Rattle.areas.specs.Calls.{openAreasNumber, openAreasNumbers, addAreaNumber, addAreaNumbers, areaRunNumber, areaRun};
+ghost use Rattle.capi_areas.specs.Answers.{areaRunAnswer};
+use inventory::Head;
+use inventory::Record;
+use inventory::Run;
+
+// A number, 0 where it is given, and the run of an area.
+#[repr(C)]
+pub struct AreaRunAnswer {
+    pub number: u64,
+    pub run: Run,
+}
+
+#[no_mangle]
+pub extern "C" fn haldurap_open_areas(numbers: &mut [u64], head: Head) -> u64
+    ensures number { λ n. ⌜ n ≡ openAreasNumber (now (numbers .entry)) head ⌝ }
+    ensures numbers { λ n. ⌜ now (numbers .exit) ≡ openAreasNumbers (now (numbers .entry)) head ⌝ }
+{
+    let v = area_recording::open_areas(numbers, head);
+    units::verdict_number(v)
+}
+
+#[no_mangle]
+pub extern "C" fn haldurap_add_area(numbers: &mut [u64], area: u64, rec: Record) -> u64
+    ensures number { λ n. ⌜ n ≡ addAreaNumber (now (numbers .entry)) area rec ⌝ }
+    ensures numbers { λ n. ⌜ now (numbers .exit) ≡ addAreaNumbers (now (numbers .entry)) area rec ⌝ }
+{
+    let v = area_recording::add_area(numbers, area, rec);
+    units::verdict_number(v)
+}
+
+#[no_mangle]
+pub extern "C" fn haldurap_area_run(numbers: &[u64], area: u64) -> AreaRunAnswer
+    ensures { λ r. ⌜ r ≡ areaRunAnswer (areaRunNumber (now (numbers .entry)) area) (areaRun (now (numbers .entry)) area) ⌝ }
+{
+    let a = area_recording::area_run(numbers, area);
+    let v = a.verdict;
+    let number = units::verdict_number(v);
+    let run = a.run;
+    AreaRunAnswer { number, run }
+}
