@@ -5,8 +5,11 @@
 //!     bench [PASSES]
 //!     bench --rows     one pass, as lines `name, archive, (a), (b)` between tabs, for bench/against.py
 //!
-//! With `--cfg layout_2` it is linked with an archive of layout 2, in whose runs CO of class 3 has no X of its own: the
-//! declarations are others (bench/run.sh makes them), and what goes by that X is not compared.
+//! With `--cfg no_areas` it is linked with an archive up to layout 3, which has no calls of areas: their rows are left out. With
+//! `--cfg layout_2` as well it is one of layout 2, in whose runs CO of class 3 has no X of its own: the declarations are others
+//! (bench/run.sh makes them), and what goes by that X is not compared.
+#[cfg(not(no_areas))]
+mod areas;
 #[cfg_attr(not(layout_2), path = "../include/haldurap.rs")]
 #[cfg_attr(layout_2, path = "../target/haldurap_layout_2.rs")]
 mod haldurap;
@@ -184,17 +187,26 @@ fn best(repetitions: usize, mut work: [&mut dyn FnMut(); 3]) -> [f64; 3] {
     best
 }
 
-fn row(name: &str, times: [f64; 3]) {
-    let [ours, a, b] = times;
-    let first = if ours > a { "SLOWER THAN (a), " } else { "" };
-    let second = if ours <= 1.2 * b {
-        "within 1.2 of (b)"
-    } else if ours <= 1.5 * b {
-        "within 1.5 of (b)"
-    } else {
-        "OVER 1.5 OF (b)"
-    };
-    println!("{name:<36}{ours:>12.1}{a:>12.1}{b:>12.1}{:>10.2}{:>10.2}  {first}{second}", ours / a, ours / b);
+/// A row: its name, the best time of each of three, and how many times (b) the archive may take.
+struct Row {
+    name: String,
+    times: [f64; 3],
+    most: f64,
+}
+
+impl Row {
+    fn print(&self) {
+        let Row { name, times: [ours, a, b], most } = self;
+        let first = if ours > a { "SLOWER THAN (a), " } else { "" };
+        let second = if *ours <= 1.2 * b {
+            "within 1.2 of (b)".into()
+        } else if *ours <= most * b {
+            format!("within {most} of (b)")
+        } else {
+            format!("OVER {most} OF (b)")
+        };
+        println!("{name:<36}{ours:>12.1}{a:>12.1}{b:>12.1}{:>10.2}{:>10.2}  {first}{second}", ours / a, ours / b);
+    }
 }
 
 /// Adds into a run up to 5,000: ns an add by position, in parts of 500, the best of each part.
@@ -240,6 +252,37 @@ fn adds(inputs: &Inputs, repetitions: usize) -> [[f64; 10]; 3] {
     best
 }
 
+/// ns for each of n operations that are all taken.
+fn each(n: usize, mut operation: impl FnMut(usize) -> u64) -> f64 {
+    let start = Instant::now();
+    let mut refused = 0;
+    for i in 0..n {
+        refused |= operation(i);
+    }
+    let time = start.elapsed().as_nanos() as f64 / n as f64;
+    assert_eq!(refused, 0);
+    time
+}
+
+/// The first record of each of 24 runs that were just opened (so many stay near the processor): ns an add.
+fn first_adds(inputs: &Inputs, repetitions: usize) -> [f64; 3] {
+    let mut best = [f64::MAX; 3];
+    let fresh: Vec<c::Run> = inputs.c_heads[..24].iter().map(|head| c::haldurap_open(*head).run).collect();
+    let ours = |i: usize| c::haldurap_add(*black_box(&fresh[i]), inputs.c_records[i]);
+    for _ in 0..repetitions {
+        let mut a: Vec<plain::Run> = inputs.heads[..24].iter().map(plain_open).collect();
+        let mut b = vec![tuned::ZERO; 24];
+        b.iter_mut().zip(&inputs.tuned_heads).for_each(|(run, head)| assert_eq!(tuned_open(head, run), 0));
+        keep(&mut best, [
+            each(24, |i| black_box(&ours(i)).number),
+            each(24, |i| plain_add(&mut a[i], &inputs.records[i])),
+            each(24, |i| tuned_add(&mut b[i], &inputs.tuned_records[i])),
+        ]);
+        assert!((0..24).all(|i| same_runs(&ours(i).run, &a[i], &b[i])), "the first records differ");
+    }
+    best
+}
+
 /// Whether three runs are the same; a run of layout 2 has no x[15], and another cold sum of gasoline CO (place 3).
 fn same_runs(ours: &c::Run, a: &plain::Run, b: &tuned::Run) -> bool {
     let sums = a.sums.as_flattened().as_flattened();
@@ -275,31 +318,39 @@ fn keep<const N: usize>(kept: &mut [f64; N], times: [f64; N]) {
 
 const LENGTHS: [usize; 10] = [0, 1, 10, 50, 100, 200, 400, 800, 1200, 1596];
 
-/// The best times: of sheets by length, adds by position, a total, a report, opening, the test of order, a record of a list.
+/// The best times: of sheets by length, adds by position, the first add, a total, a report, opening, the test of order, a record
+/// of a list, the calls of areas.
 struct Best {
     sheets: [[f64; 3]; LENGTHS.len()],
     adds: [[f64; 10]; 3],
+    first: [f64; 3],
     total: [f64; 3],
     report: [f64; 3],
     open: [f64; 3],
     order: [f64; 3],
     list: [f64; 3],
+    #[cfg(not(no_areas))]
+    areas: areas::Best,
 }
 
 impl Best {
-    /// The rows, by name.
-    fn rows(&self) -> Vec<(String, [f64; 3])> {
+    fn rows(&self) -> Vec<Row> {
+        let row = |name: &str, times| Row { name: name.into(), times, most: 1.5 };
         let sheet = |n: usize| self.sheets[LENGTHS.iter().position(|&l| l == n).unwrap()];
-        let mut rows = Vec::new();
-        for (n, name) in [(1, "1 record"), (100, "100 records"), (1596, "1,596 records")] {
-            rows.push((format!("sheet to report, {name}"), sheet(n)));
-        }
-        rows.push(("add, up to 5,000".into(), self.adds.map(|p| p.iter().sum::<f64>() / 10.0)));
-        rows.push(("total of a full run".into(), self.total));
-        rows.push(("report of a full run".into(), self.report));
-        rows.push(("opening".into(), self.open));
-        rows.push(("order of a full run".into(), self.order));
-        rows.push(("list of 5,000, each record".into(), self.list));
+        let rows = vec![
+            row("sheet to report, 1 record", sheet(1)),
+            row("sheet to report, 100 records", sheet(100)),
+            row("sheet to report, 1,596 records", sheet(1596)),
+            row("add, up to 5,000", self.adds.map(|p| p.iter().sum::<f64>() / 10.0)),
+            row("first record of a run", self.first),
+            row("total of a full run", self.total),
+            row("report of a full run", self.report),
+            row("opening", self.open),
+            row("order of a full run", self.order),
+            row("list of 5,000, each record", self.list),
+        ];
+        #[cfg(not(no_areas))]
+        let rows = rows.into_iter().chain(self.areas.rows()).collect();
         rows
     }
 }
@@ -327,6 +378,7 @@ fn pass(best_of: &mut Best, inputs: &Inputs, runs: &(c::Run, plain::Run, tuned::
     for (kept, times) in best_of.adds.iter_mut().zip(adds(inputs, repetitions)) {
         keep(kept, times);
     }
+    keep(&mut best_of.first, first_adds(inputs, repetitions));
 
     let places: Vec<(u64, u64)> = (1..=3).flat_map(|f| (1..=5).map(move |q| (f, q))).collect();
     let times = best(repetitions, [
@@ -373,6 +425,9 @@ fn pass(best_of: &mut Best, inputs: &Inputs, runs: &(c::Run, plain::Run, tuned::
         &mut || { black_box(tuned_list(black_box(&inputs.tuned_heads[0]), black_box(&numbers), black_box(&mut run))); },
     ]);
     keep(&mut best_of.list, times.map(|t| t / 5000.0));
+
+    #[cfg(not(no_areas))]
+    best_of.areas.pass(inputs, repetitions);
 }
 
 fn load() -> String {
@@ -389,17 +444,20 @@ fn main() {
     let mut b = Best {
         sheets: [[f64::MAX; 3]; LENGTHS.len()],
         adds: [[f64::MAX; 10]; 3],
+        first: [f64::MAX; 3],
         total: [f64::MAX; 3],
         report: [f64::MAX; 3],
         open: [f64::MAX; 3],
         order: [f64::MAX; 3],
         list: [f64::MAX; 3],
+        #[cfg(not(no_areas))]
+        areas: areas::Best::new(),
     };
     for _ in 0..passes {
         pass(&mut b, &inputs, &runs, 100);
     }
     if rows_alone {
-        for (name, [ours, plain, tuned]) in b.rows() {
+        for Row { name, times: [ours, plain, tuned], .. } in b.rows() {
             println!("{name}\t{ours}\t{plain}\t{tuned}");
         }
         return;
@@ -408,9 +466,7 @@ fn main() {
     println!("load after: {}", load());
     println!("ns for one operation, the best of {passes} passes of 100 repetitions; (a) plain reference, (b) tuned by hand\n");
     println!("{:<36}{:>12}{:>12}{:>12}{:>10}{:>10}", "", "archive", "(a)", "(b)", "to (a)", "to (b)");
-    for (name, times) in b.rows() {
-        row(&name, times);
-    }
+    b.rows().iter().for_each(Row::print);
 
     println!("\nadds by position in the run, ns an add");
     for part in 0..10 {

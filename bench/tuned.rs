@@ -12,6 +12,13 @@ pub struct Run {
     pub rests: [u64; 60],
 }
 
+/// Areas 0 to 15, and how many of the common records are used.
+#[derive(Clone, PartialEq)]
+pub struct Areas {
+    pub runs: [Run; 16],
+    pub common: u64,
+}
+
 pub const ZERO: Run = Run { trip: 0, x: [0; 16], count: 0, km: [0; 3], grams: [0; 60], rests: [0; 60] };
 
 pub struct Head {
@@ -98,6 +105,26 @@ pub fn in_order(run: &Run) -> bool {
             return false;
         }
     }
+    // without records every sum is 0, which one number tells
+    if run.count == 0 {
+        return any_of(run) == 0;
+    }
+    sums_in_order(run)
+}
+
+/// The grams and rests by `or`.
+#[inline]
+fn any_of(run: &Run) -> u64 {
+    let mut any = 0;
+    for j in 0..60 {
+        any |= run.grams[j] | run.rests[j];
+    }
+    any
+}
+
+/// Each sum of a run with its rest within the run's limit.
+#[inline]
+fn sums_in_order(run: &Run) -> bool {
     let limit = TRILLION * run.count;
     for j in 0..60 {
         let (g, s) = (run.grams[j], run.rests[j]);
@@ -150,6 +177,13 @@ fn add_in_order(run: &mut Run, r: &Record) -> u64 {
     if run.count >= 5000 {
         return 9;
     }
+    take(run, r);
+    0
+}
+
+/// Adds a record that no number fits.
+#[inline]
+fn take(run: &mut Run, r: &Record) {
     let class = r.class as usize - 1;
     let fuel = FUELS[class];
     let k = r.vehicles * r.km;
@@ -186,7 +220,6 @@ fn add_in_order(run: &mut Run, r: &Record) -> u64 {
     }
     run.km[fuel] += k;
     run.count += 1;
-    0
 }
 
 /// A list of records, nine numbers each, into a run of zeros: the number, how many were taken, and the place from 1 and the
@@ -211,6 +244,98 @@ pub fn add_list(head: &Head, numbers: &[u64], run: &mut Run) -> (u64, u64, usize
         }
     }
     (0, taken, place, refused)
+}
+
+/// Opens all areas in place; a refused head leaves zeros.
+pub fn open_areas(head: &Head, areas: &mut Areas) -> u64 {
+    *areas = Areas { runs: [ZERO; 16], common: 0 };
+    let [first, others @ ..] = &mut areas.runs;
+    let number = open(head, first);
+    for run in others {
+        run.trip = first.trip;
+        run.x = first.x;
+    }
+    number
+}
+
+/// The order of all areas, without a branch for each number: ranges of L and X once, in the others only whether they differ.
+#[inline]
+fn areas_in_order(areas: &Areas) -> bool {
+    let [first, others @ ..] = &areas.runs;
+    // an X moved so that 4,900,000,001 comes to 2^33; `or` keeps any bit from there on, and those of an X that wraps
+    let mut wide = 0;
+    for &x in &first.x {
+        wide |= x | x.wrapping_add((1 << 33) - 4_900_000_001);
+    }
+    if first.trip < 10 || 200 < first.trip || wide >= 1 << 33 {
+        return false;
+    }
+    let mut differ = 0;
+    for run in others {
+        differ |= run.trip ^ first.trip;
+        for i in 0..16 {
+            differ |= run.x[i] ^ first.x[i];
+        }
+    }
+    let mut beyond = 0;
+    for run in &areas.runs {
+        let most = BILLION * run.count;
+        if 5000 < run.count || most < run.km[0] || most < run.km[1] || most < run.km[2] || !area_sums_in_order(run) {
+            return false;
+        }
+        beyond += run.count.saturating_sub(300);
+    }
+    differ == 0 && beyond == areas.common && beyond <= 200
+}
+
+/// The sums of an area: in one pass by `or`, which no number is above; one by one only where that does not decide.
+#[inline]
+fn area_sums_in_order(run: &Run) -> bool {
+    if run.count == 0 {
+        return any_of(run) == 0;
+    }
+    let (mut any, mut over) = (0, 0);
+    for j in 0..60 {
+        any |= run.grams[j];
+        // half a rest, moved so that 10^9 comes to 2^29; `or` keeps any bit from there on
+        over |= run.rests[j] / 2 + ((1 << 29) - BILLION / 2);
+    }
+    // `&`: both are known before the only branch
+    (any < TRILLION * run.count) & (over < 1 << 29) || sums_in_order(run)
+}
+
+/// Adds a record to an area in place.
+pub fn add_area(areas: &mut Areas, area: u64, r: &Record) -> u64 {
+    if !areas_in_order(areas) {
+        return 16;
+    }
+    if area > 15 {
+        return 17;
+    }
+    let number = record_fault(r);
+    if number != 0 {
+        return number;
+    }
+    let run = &mut areas.runs[area as usize];
+    if run.count >= 300 {
+        if areas.common >= 200 {
+            return 18;
+        }
+        areas.common += 1;
+    }
+    take(run, r);
+    0
+}
+
+/// The run of an area into a run, of zeros where it is refused.
+pub fn area_run(areas: &Areas, area: u64, run: &mut Run) -> u64 {
+    let ordered = areas_in_order(areas);
+    if ordered && area < 16 {
+        *run = areas.runs[area as usize].clone();
+        return 0;
+    }
+    *run = ZERO;
+    if ordered { 17 } else { 16 }
 }
 
 /// The printed total of a place in order.

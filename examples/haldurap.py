@@ -15,7 +15,7 @@ import os
 from collections import namedtuple
 from ctypes import POINTER, Structure, c_double, c_int64, c_size_t, c_uint8, c_uint64
 
-LAYOUT = 3
+LAYOUT = 4
 MOST_RECORDS = 5000
 MOST_TEXT = 65536
 LINE_BYTES = 97
@@ -24,12 +24,16 @@ REFUSED_BYTES = 17
 HEAD_BYTES = 66
 RECORD_BYTES = 41
 RECORD_NUMBERS = 9
+AREAS = 16
+AREA_RECORDS = 300
+COMMON_RECORDS = 200
+AREAS_NUMBERS = 2257
 GASOLINE, DIESEL, LPG = FUELS = (1, 2, 3)
 CO, NOX, VOC, PM, FC = QUANTITIES = (1, 2, 3, 4, 5)
 KINDS = ("urban", "rural", "highway", "cold")
 ROADS = KINDS[:3]
 (TAKEN, TRIP_LENGTH, TEMPERATURE, CLASS, VEHICLES, KILOMETRES, DISTANCE, SHARES, SPEED, FULL, LINE_SHAPE, FUEL_OR_QUANTITY,
- NO_FUEL_USED, SOLD_FUEL, SHORT_BUFFER, FUEL_CONTENT, RUN_ORDER) = range(17)
+ NO_FUEL_USED, SOLD_FUEL, SHORT_BUFFER, FUEL_CONTENT, RUN_ORDER, NO_AREA, FULL_AREA) = range(19)
 
 # What each number means, and what to do about it.
 MEANINGS = {
@@ -50,7 +54,11 @@ MEANINGS = {
                " for what the fleet or the sales leave out",
     SHORT_BUFFER: "the buffer is shorter than the text; 1,455 bytes are always enough",
     FUEL_CONTENT: "hydrogen per carbon is over 4,000 thousandths, sulphur over 10,000 ppm or lead over 1,000 ppm",
-    RUN_ORDER: "the run is not in order: it was never opened, or was damaged; take runs from open_run, add, add_list and sheet alone",
+    RUN_ORDER: "the run or the areas are not in order: never opened, or damaged, or runs of several heads put into areas; take runs"
+               " from open_run, add, add_list, sheet and area_run alone, areas from open_areas, and change areas by add_area alone",
+    NO_AREA: "the area is not 0 to 15; areas are numbered from 0, and sixteen stand under one head",
+    FULL_AREA: "the area has 300 records or more, and the 200 that all areas share are used; add the rest of this area to a run of"
+               " its own (open_run), and add up the figures",
 }
 
 
@@ -86,12 +94,17 @@ def _whole(name, value, signed=False):
     return number
 
 
-def _several(name, values, count, wanted, signed=False):
-    """Exactly so many whole numbers, or ValueError."""
+def _several(name, values, count, wanted, kind=c_uint64):
+    """Exactly so many values of a kind, or ValueError."""
     items = _items(name, values, wanted)
     if len(items) != count:
         raise ValueError("%s: %s are wanted, %d given" % (name, wanted, len(items)))
-    return [_whole(name, item, signed) for item in items]
+    return [_value(name, item, kind) for item in items]
+
+
+def _value(name, value, kind):
+    """A whole number of 64 bits where the kind is one, else a value of a class of this module; or ValueError."""
+    return _whole(name, value, kind is c_int64) if kind in (c_uint64, c_int64) else _of(name, value, kind)
 
 
 def _items(name, values, wanted):
@@ -107,7 +120,8 @@ def _items(name, values, wanted):
 def _of(name, value, kind):
     """A value of a class of this module, or ValueError."""
     if not isinstance(value, kind):
-        raise ValueError("%s: a %s is wanted, %r given" % (name, kind.__name__, value))
+        article = "an" if kind.__name__[0] in "AEIOU" else "a"
+        raise ValueError("%s: %s %s is wanted, %r given" % (name, article, kind.__name__, value))
     return value
 
 
@@ -122,16 +136,16 @@ def _bytes(name, data):
 # ---- Structs
 
 class _Array:
-    """An array that takes no number that is not a whole one of 64 bits, and is filled whole."""
+    """An array that takes nothing but values of its kind (of numbers whole ones of 64 bits), and is filled whole."""
 
     def __init__(self, *values):
-        super().__init__(*_several(self.name, values, self._length_, self.wanted, self._type_ is c_int64))
+        super().__init__(*_several(self.name, values, self._length_, self.wanted, self._type_))
 
     def __setitem__(self, at, value):
         if isinstance(at, slice):
-            value = [_whole(self.name, one, self._type_ is c_int64) for one in value]
+            value = [_value(self.name, one, self._type_) for one in _items(self.name, value, self.wanted)]
         else:
-            value = _whole(self.name, value, self._type_ is c_int64)
+            value = _value(self.name, value, self._type_)
         super().__setitem__(at, value)
 
 
@@ -148,7 +162,7 @@ class _Numbers(Structure):
         if kind in (c_uint64, c_int64):
             value = _whole(name, value, kind is c_int64)
         elif kind is not None and issubclass(kind, _Array):
-            value = kind(*_several(name, value, kind._length_, kind.wanted, kind._type_ is c_int64))
+            value = kind(*_several(name, value, kind._length_, kind.wanted, kind._type_))
         elif kind is not None and not isinstance(value, kind):
             value = kind(*_several(name, value, 3, "three (urban, rural, highway)"))
         super().__setattr__(name, value)
@@ -193,6 +207,11 @@ class Run(_Numbers):
                 ("grams", _array(c_uint64, 60, "grams")), ("rests", _array(c_uint64, 60, "rests"))]
 
 
+class Areas(_Numbers):
+    # runs[i] is the run itself, not a copy, as ctypes gives a struct in a struct; area_run gives a copy
+    _fields_ = [("runs", _array(Run, 16, "runs", "sixteen runs")), ("common", c_uint64)]
+
+
 class RunAnswer(Structure):
     _fields_ = [("number", c_uint64), ("run", Run)]
 
@@ -234,6 +253,7 @@ class LayoutAnswer(Structure):
 
 
 _BYTES = POINTER(c_uint8)
+_AREAS = POINTER(Areas)
 _QUESTION = [Run, c_uint64, c_uint64]
 # The calls as C has them: what they take and what they give.
 _CALLS = {
@@ -242,6 +262,9 @@ _CALLS = {
     "add": ([Run, Record], RunAnswer),
     "add_list": ([Head, POINTER(c_uint64), c_size_t], ListAnswer),
     "in_order": ([Run], c_uint64),
+    "open_areas": ([_AREAS, c_size_t, Head], c_uint64),
+    "add_area": ([_AREAS, c_size_t, c_uint64, Record], c_uint64),
+    "area_run": ([_AREAS, c_size_t, c_uint64], RunAnswer),
     "total": (_QUESTION, GramsAnswer),
     "urban": (_QUESTION, GramsAnswer),
     "rural": (_QUESTION, GramsAnswer),
@@ -277,8 +300,9 @@ def _call(name):
 
 
 def _taken(answer):
-    if answer.number != 0:
-        raise Refused(answer.number)
+    number = answer if isinstance(answer, int) else answer.number  # some calls answer with the number alone
+    if number != 0:
+        raise Refused(number)
     return answer
 
 
@@ -334,6 +358,27 @@ def add_list(a_head, records):
 def in_order(run):
     """Whether the run is in order: each value in its range. A value that is wrong inside its range is not seen."""
     return _call("in_order")(_of("run", run, Run)) == 1
+
+
+def open_areas(a_head):
+    """Sixteen fresh areas under a head, as an Areas. While one thread adds to it, no other may use it. Refuses 1, 2."""
+    areas = Areas()
+    _taken(_call("open_areas")(areas, AREAS_NUMBERS, _of("a_head", a_head, Head)))
+    return areas
+
+
+def add_area(areas, area, a_record):
+    """Adds a record to an area, 0 to 15. Unlike add it changes the areas handed in, and gives the same ones back; refused,
+    they stay as they were. Refuses 16, 17, 3 to 8, 18."""
+    _of("areas", areas, Areas)
+    _taken(_call("add_area")(areas, AREAS_NUMBERS, _whole("area", area), _of("a_record", a_record, Record)))
+    return areas
+
+
+def area_run(areas, area):
+    """The run of an area, 0 to 15, of which every question below is asked: a copy, which no later add_area changes.
+    Refuses 16, 17."""
+    return _taken(_call("area_run")(_of("areas", areas, Areas), AREAS_NUMBERS, _whole("area", area))).run
 
 
 def total(run, fuel, quantity):

@@ -9,13 +9,18 @@
 
    How the calls work
    ------------------
-   - Everything passes by value. A call changes nothing of the caller's but the buffer that is
-     lent to it; a new run comes back in the answer. Nothing is allocated, nothing static is
-     written, so calls from many threads need no lock. A call uses less than 16 KB of stack, the
-     arguments included.
+   - Texts, lists, buffers and areas are lent by a pointer; everything else passes by value. A call
+     changes nothing of the caller's but the buffer that is lent to it; haldurap_open_areas and
+     haldurap_add_area change the lent areas, in place. A new run comes back in the answer.
+   - Nothing is allocated, nothing static is written, so calls from many threads need no lock. Only
+     what a call changes must not be used by another thread meanwhile: one haldurap_areas needs a
+     lock where a thread adds to it, different ones need none.
+   - A call uses less than 16 KB of stack, the arguments included. What is lent to it is the
+     caller's, and is not counted.
    - Every answer begins with a number: 0 if the call did what was asked, else the ground of the
-     refusal (the table below). Only haldurap_layout and haldurap_in_order have none: they refuse
-     nothing. An answer that is dropped is warned about (HALDURAP_ANSWER).
+     refusal (the table below). haldurap_open_areas and haldurap_add_area answer with the number
+     alone. Only haldurap_layout and haldurap_in_order have none: they refuse nothing. An answer
+     that is dropped is warned about (HALDURAP_ANSWER).
    - In a refused answer (its number is not 0) every other value is 0, also the floats and every
      word of a run, with three exceptions:
        haldurap_add          the run is the one that was handed in, byte for byte;
@@ -23,17 +28,22 @@
        haldurap_report_sheet sheet_number and sheet_line are told also with 14.
      A list with refused records and a text with the line REFUSED are no refused answers: number
      is 0, and haldurap_list_answer and haldurap_text_answer say where to look instead.
+   - What is lent to a refused call stays as it was, every byte, with one exception:
+       haldurap_open_areas   refused by 1 or 2, makes every number of the areas 0.
    - No call has a precondition on its numbers: any 64-bit value may be handed in, and what is out
      of range is refused by number. What the caller owes is C's own: pointers that are not null
-     (also where the length is 0), aligned memory of the stated length, a text that does not
-     overlap the buffer.
-   - Where several grounds fit, the first in this order is given: 16, then 11, then ascending; in a
-     line of a sheet and in a list 10 comes first. A sheet is sent back by its first bad line.
-   - A run is plain data. It may be copied, compared by memcmp, stored and handed in again. It is
-     tested for order (16) by every call that takes one; see haldurap_run for what that test sees
-     and what it cannot see.
-   - Later versions move the layout of a run. Compare haldurap_layout() with HALDURAP_LAYOUT and
-     sizeof(haldurap_run) before runs are kept in files, or a header and an archive are mixed.
+     (also where the length is 0), aligned memory of the stated length, a buffer and areas that
+     overlap nothing else that is lent.
+   - Where several grounds fit, the first in this order is given: 16, then 11, then ascending; in
+     adding to an area 16, 17, 3 to 8, 18; in a line of a sheet and in a list 10 comes first. A
+     sheet is sent back by its first bad line.
+   - A run is plain data, and so are areas. They may be copied, compared by memcmp, stored and
+     handed in again. A run is tested for order (16) by every call that takes one, areas by every
+     call that reads them; see haldurap_run and haldurap_areas for what that test sees and what it
+     cannot see.
+   - Later versions move the layout of a run, and of areas with it. Compare haldurap_layout() with
+     HALDURAP_LAYOUT and sizeof(haldurap_run) before runs or areas are kept in files, or a header
+     and an archive are mixed.
 
    Units: grams, vehicle kilometres and km/h are whole numbers; trip lengths are tenths of km,
    temperatures tenths of a degree Celsius, shares percent.
@@ -60,7 +70,7 @@ extern "C" {
 #endif
 
 /* The layout that this header describes; haldurap_layout() tells that of the archive. */
-#define HALDURAP_LAYOUT 3
+#define HALDURAP_LAYOUT 4   /* a struct joined those that cross; the run's own layout is that of 3 */
 
 /* Limits. */
 #define HALDURAP_MOST_RECORDS 5000      /* records in a run */
@@ -71,6 +81,10 @@ extern "C" {
 #define HALDURAP_HEAD_BYTES 66          /* the first line of a sheet, LF included */
 #define HALDURAP_RECORD_BYTES 41        /* every other line of a sheet, LF included */
 #define HALDURAP_RECORD_NUMBERS 9       /* numbers of a record in a list (haldurap_add_list) */
+#define HALDURAP_AREAS 16               /* areas under one head */
+#define HALDURAP_AREA_RECORDS 300       /* records that each area has for itself */
+#define HALDURAP_COMMON_RECORDS 200     /* records more, for whichever areas come first */
+#define HALDURAP_AREAS_NUMBERS 2257     /* 64-bit numbers of a haldurap_areas: its length in the calls */
 
 /* The numbers of refusals. */
 enum haldurap_number {
@@ -90,7 +104,9 @@ enum haldurap_number {
     HALDURAP_SOLD_FUEL = 13,        /* sold fuel over 999,999,999 t, or k not 500,000 to 1,500,000 */
     HALDURAP_SHORT_BUFFER = 14,     /* the buffer is shorter than what is to be written */
     HALDURAP_FUEL_CONTENT = 15,     /* R over 4,000, s over 10,000 or l over 1,000 */
-    HALDURAP_RUN_ORDER = 16         /* the run is not in order (see haldurap_run) */
+    HALDURAP_RUN_ORDER = 16,        /* the run or the areas are not in order (see haldurap_run, haldurap_areas) */
+    HALDURAP_NO_AREA = 17,          /* area above 15 */
+    HALDURAP_FULL_AREA = 18         /* the area has 300 records or more and the common 200 are used */
 };
 
 enum haldurap_fuel { HALDURAP_GASOLINE = 1, HALDURAP_DIESEL = 2, HALDURAP_LPG = 3 };
@@ -130,7 +146,8 @@ typedef struct haldurap_record {
 } haldurap_record;
 
 /* A run: what has been added up under one head. 1,128 bytes.
-   Take it from haldurap_open, haldurap_add, haldurap_add_list and haldurap_sheet, and ask by the calls below.
+   Take it from haldurap_open, haldurap_add, haldurap_add_list, haldurap_sheet and haldurap_area_run, and ask by
+   the calls below.
 
    A run that is not in order gives 16 from every call that takes it, but for haldurap_in_order, which gives 0.
    It is in order if every value is in its range:
@@ -153,6 +170,21 @@ typedef struct haldurap_run {
                                         kind is 0 urban, 1 rural, 2 highway, 3 cold */
     uint64_t rests[60];         /* 648  the rest of each sum, billionths of a gram, at the same place */
 } haldurap_run;
+
+/* Sixteen areas under one head: the run of each, and how much of the common records they use. 18,056 bytes.
+   They share 5,000 records: each area has 300 for itself, and 200 more are for whichever areas come first. An
+   area below 300 can always add an acceptable record, whatever the others have used.
+   Open them by haldurap_open_areas (any memory of this size will do, whatever is in it), add by haldurap_add_area,
+   and ask by haldurap_area_run. The run that it gives is a copy: haldurap_add to it does not change the areas.
+
+   Areas that are not in order give 16 from haldurap_add_area and haldurap_area_run. They are in order if
+       runs        each is in order (see haldurap_run), and all have the same trip and the same 16 x
+       common      0 to 200, and it is the sum over the areas of what count has beyond 300
+   What 16 cannot see in a run it cannot see here. */
+typedef struct haldurap_areas {
+    haldurap_run runs[16];      /*     0  the run of each area, from area 0 */
+    uint64_t common;            /* 18048  records beyond 300, summed over the areas */
+} haldurap_areas;
 
 /* A number and a run. 1,136 bytes. */
 typedef struct haldurap_run_answer {
@@ -255,6 +287,22 @@ HALDURAP_ANSWER haldurap_list_answer haldurap_add_list(haldurap_head head, const
 
 /* 1 if the run is in order (see haldurap_run), else 0. Never refuses. */
 HALDURAP_ANSWER uint64_t haldurap_in_order(haldurap_run run);
+
+/* Opens areas in the lent memory: each of the sixteen runs is that of haldurap_open, common is 0. Here and in
+   the two calls below, length is the count of 64-bit numbers lent at areas: HALDURAP_AREAS_NUMBERS.
+   Refuses 16 (for another length alone; every number stays as it was), then 1, 2, and makes every number 0 then
+   (areas of zeros are not in order). */
+HALDURAP_ANSWER uint64_t haldurap_open_areas(haldurap_areas *areas, size_t length, haldurap_head head);
+
+/* Adds a record to an area, 0 to 15, in place: its run becomes what haldurap_add gives for it, and common rises
+   by 1 if the area had 300 records or more. The other areas stay as they were.
+   Refuses 16 (also for another length), then 17, 3 to 8, 18, and leaves every number as it was. 9 is for single
+   runs, and is never given here. */
+HALDURAP_ANSWER uint64_t haldurap_add_area(haldurap_areas *areas, size_t length, uint64_t area, haldurap_record record);
+
+/* The run of an area, 0 to 15, of which every question below is asked. The numbers are only read.
+   Refuses 16 (also for another length), then 17, and gives the run of zeros then. */
+HALDURAP_ANSWER haldurap_run_answer haldurap_area_run(const haldurap_areas *areas, size_t length, uint64_t area);
 
 /* The printed total of a fuel and a quantity, grams: the exact sum of the four kinds, half up.
    The printed kinds may miss it by up to 2 g. Refuses 16, 11. */

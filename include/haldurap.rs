@@ -7,7 +7,7 @@
 compile_error!("haldurap.rs: the archive is for x86-64 Linux with 64-bit pointers");
 
 /// The layout that this file describes; `haldurap_layout` tells that of the archive.
-pub const LAYOUT: u64 = 3;
+pub const LAYOUT: u64 = 4;
 
 /// Records in a run.
 pub const MOST_RECORDS: u64 = 5000;
@@ -25,6 +25,14 @@ pub const HEAD_BYTES: usize = 66;
 pub const RECORD_BYTES: usize = 41;
 /// Numbers of a record in a list.
 pub const RECORD_NUMBERS: usize = 9;
+/// Areas under one head.
+pub const AREAS: u64 = 16;
+/// Records that each area has for itself.
+pub const AREA_RECORDS: u64 = 300;
+/// Records more, for whichever areas come first.
+pub const COMMON_RECORDS: u64 = 200;
+/// 64-bit numbers of an `Areas`.
+pub const AREAS_NUMBERS: usize = 2257;
 
 // The numbers of refusals.
 
@@ -60,8 +68,12 @@ pub const SOLD_FUEL: u64 = 13;
 pub const SHORT_BUFFER: u64 = 14;
 /// R over 4,000, s over 10,000 or l over 1,000.
 pub const FUEL_CONTENT: u64 = 15;
-/// The run is not in order.
+/// The run or the areas are not in order.
 pub const RUN_ORDER: u64 = 16;
+/// Area above 15.
+pub const NO_AREA: u64 = 17;
+/// The area has 300 records or more and the common 200 are used.
+pub const FULL_AREA: u64 = 18;
 
 // Fuels.
 
@@ -105,6 +117,19 @@ impl Record {
 #[repr(C)]
 #[derive(Clone, Copy, Debug, PartialEq)]
 pub struct Run { pub trip: u64, pub x: [u64; 16], pub count: u64, pub km: [u64; 3], pub grams: [u64; 60], pub rests: [u64; 60] }
+
+/// Sixteen areas under one head: the run of each, and how many records they have beyond 300 in all. Calls change it in
+/// place, so it is not `Copy`: a copy made unseen would be changed instead.
+#[repr(C)]
+#[derive(Clone, Debug, PartialEq)]
+pub struct Areas { pub runs: [Run; 16], pub common: u64 }
+
+impl Areas {
+    /// Memory to open areas in. Not opened, they are not in order.
+    pub const fn zeros() -> Areas {
+        Areas { runs: [Run { trip: 0, x: [0; 16], count: 0, km: [0; 3], grams: [0; 60], rests: [0; 60] }; 16], common: 0 }
+    }
+}
 
 #[repr(C)]
 #[must_use]
@@ -165,6 +190,11 @@ unsafe extern "C" {
     pub fn haldurap_add_list(head: Head, numbers: *const u64, length: usize) -> ListAnswer;
     #[must_use]
     pub safe fn haldurap_in_order(run: Run) -> u64;
+    #[must_use]
+    pub fn haldurap_open_areas(areas: *mut u64, length: usize, head: Head) -> u64;
+    #[must_use]
+    pub fn haldurap_add_area(areas: *mut u64, length: usize, area: u64, record: Record) -> u64;
+    pub fn haldurap_area_run(areas: *const u64, length: usize, area: u64) -> RunAnswer;
     pub safe fn haldurap_total(run: Run, fuel: u64, quantity: u64) -> GramsAnswer;
     pub safe fn haldurap_urban(run: Run, fuel: u64, quantity: u64) -> GramsAnswer;
     pub safe fn haldurap_rural(run: Run, fuel: u64, quantity: u64) -> GramsAnswer;
@@ -184,7 +214,8 @@ unsafe extern "C" {
     pub fn haldurap_report_sheet(text: *const u8, text_length: usize, buffer: *mut u8, buffer_length: usize) -> TextAnswer;
 }
 
-// A slice is aligned, not null and of its length, and a `&mut` one overlaps nothing: that is all these calls want.
+// A slice or an `Areas` is aligned, not null and of its length, and a `&mut` one overlaps nothing: that is all these calls want.
+const _: () = assert!(size_of::<Areas>() == AREAS_NUMBERS * size_of::<u64>());
 
 /// Nine numbers a record; `Record::numbers` gives them.
 pub fn add_list(head: Head, numbers: &[u64]) -> ListAnswer {
@@ -194,6 +225,22 @@ pub fn add_list(head: Head, numbers: &[u64]) -> ListAnswer {
 #[must_use]
 pub fn in_order(run: Run) -> bool {
     haldurap_in_order(run) == 1
+}
+
+/// Gives the number; refused by 1 or 2, the areas are zeros.
+#[must_use]
+pub fn open_areas(areas: &mut Areas, head: Head) -> u64 {
+    unsafe { haldurap_open_areas((&raw mut *areas).cast(), AREAS_NUMBERS, head) }
+}
+
+/// Gives the number; refused, the areas are as they were.
+#[must_use]
+pub fn add_area(areas: &mut Areas, area: u64, record: Record) -> u64 {
+    unsafe { haldurap_add_area((&raw mut *areas).cast(), AREAS_NUMBERS, area, record) }
+}
+
+pub fn area_run(areas: &Areas, area: u64) -> RunAnswer {
+    unsafe { haldurap_area_run((&raw const *areas).cast(), AREAS_NUMBERS, area) }
 }
 
 pub fn report(run: Run, buffer: &mut [u8]) -> LengthAnswer {

@@ -5,6 +5,7 @@
 - include/haldurap.h compiles by itself as C11 and C99 and as C++17 and C++11, without a warning.
 - Each call, with its answer dropped, is warned about in C, C++ and Rust.
 - Calls and constants of the header, of include/haldurap.rs and of examples/haldurap.py are the same.
+- A pointer is only read through in Rust exactly where it is in C; each safe function of Rust is among those that are dropped.
 - The archive defines exactly the header's calls, and needs nothing but memcpy and memset.
 
 Needs the archive and the shared object (tests/archive.sh). Exits 1 where one of these does not hold.
@@ -55,6 +56,12 @@ def header_calls(text):
     return {name: (mark, answer, 0 if parameters == "void" else parameters.count(",") + 1) for mark, answer, name, parameters in found}
 
 
+def header_pointers(text):
+    """Of each call, which of its pointers are only read through."""
+    found = re.findall(r"\b(haldurap_\w+)\(([^)]*)\);", text)
+    return {name: ["const" if "const" in one else "mut" for one in parameters.split(",") if "*" in one] for name, parameters in found}
+
+
 def header_constants(text):
     """The enumerators and the limits, without the prefix."""
     found = dict(re.findall(r"\bHALDURAP_(\w+) = (\d+)", text))
@@ -67,19 +74,25 @@ def rust_calls(text):
     return {name: parameters.count(":") for name, parameters in found}
 
 
+def rust_pointers(text):
+    return {name: re.findall(r"\*(const|mut) ", parameters) for name, parameters in re.findall(r"\bfn (haldurap_\w+)\(([^)]*)\)", text)}
+
+
 def rust_constants(text):
     return {name: int(value) for name, value in re.findall(r"^pub const (\w+): \w+ = (\d+);", text, re.M)}
 
 
-def declarations(calls, constants):
+def declarations(calls, constants, pointers):
     import haldurap as python
     rust = without_comments(read(RUST))
     same(rust_constants(rust), constants, "constants of haldurap.rs")
     same({name: getattr(python, name, None) for name in constants}, constants, "constants of haldurap.py")
     numbers = {name: count for name, (_, _, count) in calls.items()}
     same(rust_calls(rust), numbers, "calls of haldurap.rs and their parameters")
+    same(rust_pointers(rust), pointers, "pointers of haldurap.rs")
+    same(sorted(re.findall(r"^pub fn (\w+)\(", rust, re.M)), sorted(call.split("(")[0] for call in WRAPPERS), "safe functions of haldurap.rs")
     same({"haldurap_" + name: len(words) for name, (words, _) in python._CALLS.items()}, numbers, "calls of haldurap.py and their parameters")
-    same(sorted(python.MEANINGS), list(range(1, 17)), "meanings of haldurap.py")
+    same(sorted(python.MEANINGS), list(range(1, 19)), "meanings of haldurap.py")
 
 
 # ---- The compilers
@@ -102,13 +115,16 @@ def compiled(calls, folder):
         same((status != 0, sorted(warned)), (True, sorted(calls)), "dropped answers as %s" % standard)
     dropped = os.path.join(folder, "dropped.rs")
     with open(dropped, "w", encoding="utf-8") as file:
-        file.write('#[path = "%s"]\nmod haldurap;\nuse haldurap::*;\npub fn dropped(head: Head, record: Record, run: Run, text: *mut u8, numbers: *const u64) {\n' % RUST)
+        file.write('#[path = "%s"]\nmod haldurap;\nuse haldurap::*;\n' % RUST)
+        file.write("pub fn dropped(head: Head, record: Record, run: Run, text: *mut u8, numbers: *const u64, areas: *mut u64, mut lent: Areas) {\n")
         for call in calls:
             file.write("    unsafe { %s(%s); }\n" % (call, ", ".join(ARGUMENTS[call]) if call in ARGUMENTS else "run, 1, 1"))
-        file.write("    in_order(run);\n    add_list(head, &[]);\n    report(run, &mut []);\n    sheet(&[]);\n    report_sheet(&[], &mut []);\n}\n")
+        for call in WRAPPERS:
+            file.write("    %s;\n" % call)
+        file.write("}\n")
     status, said = run("rustc", "--edition", "2024", "--crate-type", "lib", "-A", "unused_unsafe", "-D", "unused_must_use", "--emit", "metadata",
                        "-o", os.path.join(folder, "dropped.rmeta"), dropped)
-    same((status != 0, said.count("that must be used")), (True, len(calls) + 5), "dropped answers in Rust")
+    same((status != 0, said.count("that must be used")), (True, len(calls) + len(WRAPPERS)), "dropped answers in Rust")
 
 
 # What each call that is no question of fuel and quantity is handed.
@@ -118,6 +134,9 @@ ARGUMENTS = {
     "haldurap_add": ["run", "record"],
     "haldurap_add_list": ["head", "numbers", "0"],
     "haldurap_in_order": ["run"],
+    "haldurap_open_areas": ["areas", "0", "head"],
+    "haldurap_add_area": ["areas", "0", "1", "record"],
+    "haldurap_area_run": ["areas", "0", "1"],
     "haldurap_balance": ["run", "1", "1", "1"],
     "haldurap_report": ["run", "text", "0"],
     "haldurap_sheet": ["text", "0"],
@@ -128,7 +147,11 @@ extern haldurap_record record;
 extern haldurap_run run;
 extern uint8_t text[1];
 extern uint64_t numbers[1];
+extern haldurap_areas areas[1];
 """
+# The safe functions of haldurap.rs.
+WRAPPERS = ["in_order(run)", "add_list(head, &[])", "open_areas(&mut lent, head)", "add_area(&mut lent, 1, record)", "area_run(&lent, 1)",
+            "report(run, &mut [])", "sheet(&[])", "report_sheet(&[], &mut [])"]
 
 
 def linked(calls):
@@ -147,7 +170,7 @@ def main():
     calls = header_calls(text)
     same(len(calls), text.count("HALDURAP_ANSWER haldurap_") + text.count("HALDURAP_ANSWER uint64_t"), "calls that are marked")
     same({mark for mark, _, _ in calls.values()}, {"HALDURAP_ANSWER"}, "the mark of every call")
-    declarations(calls, header_constants(text))
+    declarations(calls, header_constants(text), header_pointers(text))
     with tempfile.TemporaryDirectory() as folder:
         compiled(calls, folder)
     linked(calls)

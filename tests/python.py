@@ -5,6 +5,7 @@ its number and text, and ValueError with the argument's name for what is no argu
 
 Needs the shared object (tests/archive.sh). Prints `N compared, M wrong`, and exits 1 where one is wrong.
 """
+import copy
 import os
 import pickle
 import random
@@ -74,6 +75,10 @@ def words(run):
 
 def same_run(found, wanted, what):
     same(words(found), words(run_of(wanted)), what)
+
+
+def same_areas(found, wanted, what):
+    same([words(run) for run in found.runs] + [found.common], [words(run_of(run)) for run in wanted.runs] + [wanted.common], what)
 
 
 # ---- Values
@@ -165,6 +170,141 @@ def runs(rng):
     listed(full, full, "add_list of 5,001 records")
     number, run = 0, h.add_list(head_of(head), full).run
     same(outcome(h.add, run, record_of(vectors.EXAMPLE)), refused(9), "add to a full run")
+
+
+def areas(rng):
+    """Areas opened, added to, asked and refused, as the reference has them."""
+    head = sheets.some_head(rng)
+    lent, (number, wanted) = h.open_areas(head_of(head)), ref.open_areas(head)
+    same_areas(lent, wanted, "open_areas")
+    for trip, temps in ((9, [100] * 12), (201, [401] * 12), (120, [100] * 11 + [401]), (2**64 - 1, [-2**63] * 12)):
+        same(outcome(h.open_areas, h.head(trip, temps)), refused(ref.open_areas((trip, temps))[0]), "open_areas of L %d" % trip)
+    cls, vehicles, km, shares, speeds = vectors.EXAMPLE
+    bad = [(0, vehicles, km, shares, speeds), (cls, 0, km, shares, speeds), (cls, vehicles, 0, shares, speeds), (cls, 100001, 10000, shares, speeds),
+           (cls, vehicles, km, (40, 40, 19), speeds), (cls, vehicles, km, shares, (20, 60, 131)), (0, 0, 0, (0, 0, 0), (0, 0, 0))]
+    wrong = iter([(area, record) for area in (3, 16, 2**32 + 3) for record in (*bad, vectors.EXAMPLE)])
+    for turn in range(60):
+        area, record = (turn * 7 % 16, vectors.some_record(rng)) if turn % 2 else next(wrong, (15, vectors.EXAMPLE))
+        what, before = "add_area %d %s" % (area, record), bytes(lent)
+        number, wanted = ref.add_area(wanted, area, record)
+        found = outcome(h.add_area, lent, area, record_of(record))
+        same(found if number else found is lent, refused(number) if number else True, what)
+        same(bytes(lent) == before, number != 0, what + ", the areas")
+        same_areas(lent, wanted, what)
+    before = bytes(lent)
+    for area in (*range(16), 16, 17, 2**32, 2**64 - 1):
+        number, run = ref.area_run(wanted, area)
+        found = outcome(h.area_run, lent, area)
+        same(found if number else words(found), refused(number) if number else words(run_of(run)), "area_run %d" % area)
+    questions(h.area_run(lent, 7), ref.area_run(wanted, 7)[1], rng)
+    same(bytes(lent) == before, True, "areas that were asked")
+
+
+def shared_records():
+    """300 records for each area, 200 more for whoever comes first, 5,000 in all; figures of document 02, job 3."""
+    head, record = h.head(120, vectors.MILD), record_of(vectors.EXAMPLE)
+    fast = h.record(2, 1000, 10000, (40, 40, 20), (20, 60, 131))
+    lent, wanted = h.open_areas(head), ref.open_areas((120, vectors.MILD))[1]
+
+    def added(area, times):
+        """The last outcome of so many adds to an area, its count and the common use."""
+        nonlocal wanted
+        for _ in range(times):
+            last = outcome(h.add_area, lent, area, record)
+        number, wanted = ref.add_area(wanted, area, vectors.EXAMPLE, times)
+        same(last if number else last is lent, refused(number) if number else True, "%d adds to area %d" % (times, area))
+        same_areas(lent, wanted, "%d adds to area %d" % (times, area))
+        return "taken" if last is lent else last, lent.runs[area].count, lent.common
+
+    same(added(5, 300), ("taken", 300, 0), "300 records in area 5")
+    same(added(5, 1), ("taken", 301, 1), "one more")
+    same(added(5, 99), ("taken", 400, 100), "99 more")
+    same(added(0, 300), ("taken", 300, 100), "300 records in area 0")
+    same(added(0, 1), ("taken", 301, 101), "one more")
+    same(added(3, 299), ("taken", 299, 101), "299 records in area 3")
+    same(added(5, 99), ("taken", 499, 200), "all common records used")
+    before = bytes(lent)
+    for area in (5, 0):
+        same(added(area, 3)[0], refused(18), "area %d without room" % area)
+        same(outcome(h.add_area, lent, area, fast), refused(8), "8 before 18")
+    same(outcome(h.add_area, lent, 16, fast), refused(17), "17 before 8")
+    same(bytes(lent) == before, True, "areas after refused records")
+    same(added(3, 1), ("taken", 300, 200), "area 3 below 300, all common records used")
+    same(added(3, 1), (refused(18), 300, 200), "area 3 with 300")
+    for area in sorted(set(range(16)) - {0, 3, 5}):
+        same(added(area, 301), (refused(18), 300, 200), "area %d up to 300" % area)
+    same(sum(run.count for run in lent.runs), 5000, "records in all")
+    # the run of an area is a single run: it takes 5,000 records, and then the number is 9
+    run = h.area_run(lent, 5)
+    same(words(run), words(h.add_list(head, [record] * 499).run), "the run of area 5")
+    while run.count < 5000:
+        run = h.add(run, record)
+    same(outcome(h.add, run, record), refused(9), "a single run that was an area's")
+    same(lent.runs[5].count, 499, "area 5 after that")
+    # one area alone takes 500
+    lent, wanted = h.open_areas(head), ref.open_areas((120, vectors.MILD))[1]
+    same(added(15, 500), ("taken", 500, 200), "500 records in area 15")
+    same(added(15, 1), (refused(18), 500, 200), "501 records in area 15")
+    same(words(h.area_run(lent, 15)), words(h.add_list(head, [record] * 500).run), "the run of area 15")
+
+
+def areas_out_of_order():
+    """16 from adding and asking, whichever area is meant, and the areas stay as they were."""
+    head, record = h.head(120, vectors.MILD), record_of(vectors.EXAMPLE)
+    good = h.add_area(h.open_areas(head), 2, record)
+    other = h.add(h.open_run(h.head(121, vectors.MILD)), record)
+    warmer = h.open_run(h.head(120, [100] * 11 + [101]))
+
+    def damaged(change):
+        lent = copy.copy(good)
+        change(lent)
+        return lent
+
+    def of_class_3(lent):
+        lent.runs[4].x[15] += 1
+
+    def setting(area, field, value, common=0):
+        return lambda lent: (setattr(lent.runs[area], field, value), setattr(lent, "common", common))
+
+    cases = [h.Areas(), damaged(lambda lent: setattr(lent, "common", 1)), damaged(lambda lent: setattr(lent, "common", 2**64 - 1)),
+             damaged(setting(4, "trip", 9)), damaged(setting(4, "trip", 121)), damaged(setting(2, "count", 0)), damaged(setting(4, "count", 301)),
+             damaged(setting(4, "count", 301, 2)), damaged(setting(4, "count", 501, 201)), damaged(setting(4, "count", 5001, 4701)),
+             damaged(of_class_3), damaged(lambda lent: lent.runs.__setitem__(0, other)), damaged(lambda lent: lent.runs.__setitem__(15, warmer)),
+             h.Areas([other] + [h.open_run(head)] * 15, 0), h.Areas([h.Run()] * 16, 0)]
+    for place, lent in enumerate(cases):
+        before = bytes(lent)
+        for area in (0, 4, 15, 16):
+            same(outcome(h.add_area, lent, area, record), refused(16), "add_area, areas out of order %d" % place)
+            same(outcome(h.add_area, lent, area, h.record(0, 0, 0, (0, 0, 0), (0, 0, 0))), refused(16), "add_area, areas out of order %d" % place)
+            same(outcome(h.area_run, lent, area), refused(16), "area_run, areas out of order %d" % place)
+        same(bytes(lent) == before, True, "areas out of order %d" % place)
+    for lent in (damaged(setting(4, "count", 300)), damaged(setting(4, "count", 301, 1)), damaged(setting(4, "count", 500, 200)), h.Areas([other] * 16, 0)):
+        same(isinstance(outcome(h.area_run, lent, 9), h.Run), True, "areas in order")
+
+
+def copies():
+    """What is a copy, and what is the areas themselves."""
+    head, record = h.head(120, vectors.MILD), record_of(vectors.EXAMPLE)
+    lent = h.open_areas(head)
+    same(h.add_area(lent, 3, record) is lent, True, "add_area gives the same areas back")
+    run, whole = h.area_run(lent, 3), bytes(lent)
+    made = [copy.copy(lent), copy.deepcopy(lent), pickle.loads(pickle.dumps(lent)), h.Areas.from_buffer_copy(lent), h.Areas(lent.runs, lent.common)]
+    h.add(run, record)
+    run.count = 7
+    same(bytes(lent) == whole, True, "areas whose run was changed")
+    h.add_area(lent, 3, record)
+    same((run.count, lent.runs[3].count), (7, 2), "a run asked before the add")
+    for place, other in enumerate(made):
+        same((type(other), bytes(other) == whole), (h.Areas, True), "copy %d of areas" % place)
+        same(words(h.area_run(h.add_area(other, 3, record), 3)), words(h.area_run(lent, 3)), "an add to copy %d" % place)
+    for other in (copy.copy(run), copy.deepcopy(run), pickle.loads(pickle.dumps(run)), copy.copy(lent.runs[3])):
+        same(type(other), h.Run, "copy of a run")
+        before = bytes(lent)
+        other.count = 9
+        same((run.count, bytes(lent) == before), (7, True), "what a copy of a run leaves")
+    lent.runs[3].count = 1
+    same(h.area_run(lent, 3).count, 1, "runs are the areas' own")
+    same(h.in_order(lent.runs[3]), True, "a question of an area's own run")
 
 
 def texts(rng):
@@ -295,10 +435,33 @@ def wrong_arguments():
             same(outcome(h.figure, run, *values), error(name, said), "figure with %s %r" % (name, value))
     for kind in ("", "hot", 3, None, "Urban"):
         same(outcome(h.figure, run, 1, 1, kind), error("kind", "one of urban, rural, highway, cold is wanted, %r given" % (kind,)), "figure %r" % (kind,))
+    # areas
+    part, lent = h.record(2, 1, 1, shares, speeds), h.open_areas(head)
+    whole = bytes(lent)
+    for value in (None, 5, bytes(18056), run, [run] * 16):
+        same(outcome(h.add_area, value, 3, part), error("areas", "an Areas is wanted, %r given" % (value,)), "add_area to %r" % (value,))
+        same(outcome(h.area_run, value, 3), error("areas", "an Areas is wanted, %r given" % (value,)), "area_run of %r" % (value,))
+    for value, said in NOT_NUMBERS:
+        same(outcome(h.add_area, lent, value, part), error("area", said), "add_area to area %r" % (value,))
+        same(outcome(h.area_run, lent, value), error("area", said), "area_run of area %r" % (value,))
+        same(outcome(setattr, lent, "common", value), error("common", said), "common set to %r" % (value,))
+    for value in (5, None, "0123456789abcdef", bytes(16), run):
+        for call in (lambda: setattr(lent, "runs", value), lambda: lent.runs.__setitem__(slice(0, 16), value), lambda: h.Areas(value)):
+            same(outcome(call), error("runs", "sixteen runs are wanted, %r given" % (value,)), "runs set to %r" % (value,))
+    for count in (0, 1, 15, 17):
+        same(outcome(setattr, lent, "runs", [run] * count), error("runs", "sixteen runs are wanted, %d given" % count), "%d runs" % count)
+        same(outcome(h.Areas, [run] * count), error("runs", "sixteen runs are wanted, %d given" % count), "%d runs" % count)
+    for value in (5, None, [0] * 141, bytes(1128), head, lent):
+        for call in (lambda: setattr(lent, "runs", [run] * 15 + [value]), lambda: lent.runs.__setitem__(3, value),
+                     lambda: lent.runs.__setitem__(slice(0, 2), [run, value])):
+            same(outcome(call), error("runs", "a Run is wanted, %r given" % (value,)), "a run set to %r" % (value,))
+    same(bytes(lent) == whole, True, "areas after refused changes")
+    same(h.add_area(lent, Index(3), part).runs[3].count, 1, "an area's number of another type")
     # the rest
-    part = h.record(2, 1, 1, shares, speeds)
     for call, arguments, name, wanted in ((h.open_run, (run,), "a_head", "a Head"), (h.add, (head, part), "run", "a Run"), (h.add, (run, head), "a_record", "a Record"),
-                                          (h.add_list, (run, []), "a_head", "a Head"), (h.in_order, (head,), "run", "a Run"), (h.report, (head,), "run", "a Run")):
+                                          (h.add_list, (run, []), "a_head", "a Head"), (h.in_order, (head,), "run", "a Run"), (h.report, (head,), "run", "a Run"),
+                                          (h.open_areas, (run,), "a_head", "a Head"), (h.add_area, (lent, 3, head), "a_record", "a Record"),
+                                          (h.total, (lent, 1, 1), "run", "a Run")):
         found = outcome(call, *arguments)
         same(str(found).startswith("ValueError: %s: %s is wanted, <" % (name, wanted)), True, "%s with a wrong %s: %s" % (call.__name__, name, found))
     for value, said in NOT_NUMBERS:
@@ -314,17 +477,17 @@ def whole_module():
     """Every call of the header has its function, every number its text."""
     with open(os.path.join(ROOT, "include", "haldurap.h"), encoding="utf-8") as file:
         calls = sorted(set(re.findall(r"^HALDURAP_ANSWER \w+ haldurap_(\w+)\(", file.read(), re.M)))
-    same(len(calls), 22, "calls of the header")
+    same(len(calls), 25, "calls of the header")
     names = {"open": "open_run"}
     same([name for name in calls if not callable(getattr(h, names.get(name, name), None))], [], "calls without a function")
-    for number in range(1, 17):
+    for number in range(1, 19):
         for line in (None, 7):
             error = h.Refused(number, line)
             where = "" if line is None else " at line 7"
             same(str(error), "refused with %d%s: %s" % (number, where, h.MEANINGS[number]), "text of Refused")
             again = pickle.loads(pickle.dumps(error))
             same((again.number, again.line, str(again)), (number, line, str(error)), "Refused, stored")
-    same(len(set(h.MEANINGS.values())), 16, "meanings")
+    same(len(set(h.MEANINGS.values())), 18, "meanings")
 
 
 def main():
@@ -332,6 +495,10 @@ def main():
     whole_module()
     wrong_arguments()
     runs(rng)
+    areas(rng)
+    shared_records()
+    areas_out_of_order()
+    copies()
     texts(rng)
     print("%d compared, %d wrong" % (done, failed))
     sys.exit(1 if failed else 0)

@@ -1,9 +1,9 @@
 """The inventory in exact whole numbers, written from the customer's request alone: "COPERT II inventory core", its
-document 01, and the jobs of its document 02 that have landed (1, 2), of which docs/SPECIFICATION.md says the same in our own
-words. Nothing here comes from the Rattle code. Lists of records, and the number and line beside a text, are from
-SPECIFICATION, "Lists of records" and "Report".
+document 01, and the jobs of its document 02 that have landed (1, 2, 3), of which docs/SPECIFICATION.md says the same in our
+own words. Nothing here comes from the Rattle code. Lists of records, and the number and line beside a text, are from
+SPECIFICATION, "Lists of records" and "Report"; the order of the numbers of lent areas is from that page too.
 
-Each call is one function, and a refusal is its number in the table of refusals, 0 for none. The tally at the end has
+Each call is one function, and a refusal is its number in the table of refusals, 0 for none. The tallies at the end have
 the exact, never rounded sums that SPECIFICATION, "Accuracy", measures against.
 """
 import re
@@ -92,6 +92,24 @@ class Run:
     def sum(self, fuel, quantity, kind):
         """A sum in billionths of a gram."""
         return self.grams[fuel, quantity, kind] * 10**9 + self.rests[fuel, quantity, kind]
+
+
+# Job 3: areas 0 to 15, records that each has for itself, and records for whoever comes first.
+AREAS = range(16)
+OWN_RECORDS = 300
+COMMON_RECORDS = 200
+
+
+class Areas:
+    """The runs of the areas, and the common use: the records beyond 300 of all of them together."""
+
+    def __init__(self, runs=None, common=0):
+        self.runs = runs or [Run() for _ in AREAS]
+        self.common = common
+
+    def with_run(self, area, run, common):
+        """The same areas but for one run and the common use."""
+        return Areas([*self.runs[:area], run, *self.runs[area + 1:]], common)
 
 
 def half_up(value):
@@ -184,8 +202,11 @@ def add(run, record):
     """The number and the run with the record, or as it came where refused."""
     number = first([(16, not in_order(run)), (record_number(record), record_number(record) != 0),
                     (9, run.count >= 5000)])
-    if number != 0:
-        return number, run
+    return (number, run) if number else (0, with_record(run, record, 1))
+
+
+def with_record(run, record, times):
+    """The run with a record that is taken so many times; each time adds the same to its sums."""
     cls, vehicles, km, shares, speeds = record
     fuel, k, new = FUEL[cls], vehicles * km, run.copy()
     for q in QUANTITIES:
@@ -194,10 +215,10 @@ def add(run, record):
         parts = [k * shares[road] * e[road] for road in range(3)] + [k * cold * 100]
         for kind, part in zip(KINDS, parts):
             place = fuel, q, kind
-            new.grams[place], new.rests[place] = divmod(run.sum(*place) + part, 10**9)
-    new.km[fuel] += k
-    new.count += 1
-    return 0, new
+            new.grams[place], new.rests[place] = divmod(run.sum(*place) + times * part, 10**9)
+    new.km[fuel] += times * k
+    new.count += times
+    return new
 
 
 def add_list(head, numbers):
@@ -217,6 +238,63 @@ def add_list(head, numbers):
         elif first_refused == (0, 0):
             first_refused = place, number
     return 0, taken, *first_refused, run
+
+
+def beyond_own(counts):
+    """The records beyond 300, summed over the areas."""
+    return sum(max(0, count - OWN_RECORDS) for count in counts)
+
+
+def is_full(count, common):
+    """18: an area with this count, where so many of the common records are used."""
+    return count >= OWN_RECORDS and common >= COMMON_RECORDS
+
+
+def areas_in_order(areas):
+    """Whether areas are in order: every run, one head (all that a run has of it is L and X), and the common use."""
+    one = areas.runs[0]
+    return (all(in_order(run) for run in areas.runs)
+            and all((run.trip, run.x) == (one.trip, one.x) for run in areas.runs)
+            and areas.common == beyond_own(run.count for run in areas.runs)
+            and areas.common <= COMMON_RECORDS)
+
+
+def open_areas(head):
+    """The number and sixteen fresh areas under one head (of zeros where refused)."""
+    number, run = open_run(head)
+    return number, Areas([run.copy() for _ in AREAS])
+
+
+def add_area(areas, area, record, times=1):
+    """The number of the last of so many adds of one record to an area, at least one, and the areas after them. A refused add
+    changes nothing, so the next is refused alike."""
+    number = first([(16, not areas_in_order(areas)), (17, area not in AREAS), (record_number(record), record_number(record) != 0)])
+    if number != 0:
+        return number, areas
+    run, common, taken = areas.runs[area], areas.common, 0
+    while taken < times and not is_full(run.count + taken, common):
+        common += run.count + taken >= OWN_RECORDS
+        taken += 1
+    after = areas.with_run(area, with_record(run, record, taken), common)
+    # Sums and limits rise evenly, so areas in order at both ends were so before each add between them: 16 fitted none.
+    assert times == 1 or areas_in_order(after)
+    return 0 if taken == times else 18, after
+
+
+def area_run(areas, area):
+    """The number and the run of an area (of zeros where refused)."""
+    number = first([(16, not areas_in_order(areas)), (17, area not in AREAS)])
+    return number, Run() if number else areas.runs[area]
+
+
+def run_numbers(run):
+    """The 141 numbers of a run as it is lent: L, the values X, the count, kilometres, grams, rests."""
+    return [run.trip, *run.x.values(), run.count, *run.km.values(), *run.grams.values(), *run.rests.values()]
+
+
+def areas_numbers(areas):
+    """The 2,257 numbers of areas as they are lent: run by run, then the common use."""
+    return [n for run in areas.runs for n in run_numbers(run)] + [areas.common]
 
 
 def question_number(run, fuel, quantity):
@@ -390,22 +468,47 @@ def program_text(text):
     return sheet_text(text)[2]
 
 
-def tally(head, records):
+class Tally:
     """Demand 3's tally on paper: count, kilometres by fuel, exact sums by (fuel, quantity)."""
-    count, km, sums = 0, {f: 0 for f in FUELS}, {(f, q): Fraction(0) for f in FUELS for q in QUANTITIES}
-    x, gain = unrounded_x(head), {}
-    for record in records:
-        if record_number(record) != 0 or count >= 5000:
-            continue
-        cls, vehicles, km_each, shares, speeds = record
-        fuel, k = FUEL[cls], vehicles * km_each
-        if record not in gain:
-            gain[record] = [exact_grams(record, q, x[x_name(cls, q)]) for q in QUANTITIES]
-        count += 1
-        km[fuel] += k
+
+    def __init__(self, head):
+        self.count, self.km = 0, {f: 0 for f in FUELS}
+        self.sums = {(f, q): Fraction(0) for f in FUELS for q in QUANTITIES}
+        self.x, self.gain = unrounded_x(head), {}
+
+    def feed(self, record, room):
+        """The record of the next add, and whether there is room for it."""
+        if record_number(record) != 0 or not room:
+            return
+        cls, vehicles, km, shares, speeds = record
+        fuel, k = FUEL[cls], vehicles * km
+        if record not in self.gain:
+            self.gain[record] = [exact_grams(record, q, self.x[x_name(cls, q)]) for q in QUANTITIES]
+        self.count += 1
+        self.km[fuel] += k
         for q in QUANTITIES:
-            sums[fuel, q] += gain[record][q - 1]
-    return count, km, sums
+            self.sums[fuel, q] += self.gain[record][q - 1]
+
+
+def tally(head, records):
+    """The tally of a run: count, kilometres by fuel, exact sums by (fuel, quantity)."""
+    paper = Tally(head)
+    for record in records:
+        paper.feed(record, paper.count < 5000)
+    return paper.count, paper.km, paper.sums
+
+
+class AreaTallies:
+    """The tally of each area. 18 is told from the counts of them all."""
+
+    def __init__(self, head):
+        self.areas = [Tally(head) for _ in AREAS]
+
+    def feed(self, area, record):
+        """The area and the record of the next add; one to another area changes nothing."""
+        if area in AREAS:
+            paper = self.areas[area]
+            paper.feed(record, not is_full(paper.count, beyond_own(other.count for other in self.areas)))
 
 
 def exact_grams(record, quantity, x):

@@ -1,10 +1,11 @@
 //! Holds the archive, through its C interface, against the plain implementation in reference.rs: the same
-//! random and boundary inputs to both, and every value and every byte compared. Prints what was tried by number, and how
-//! many differences there were; exits 1 on any.
+//! random and boundary inputs to both, and every value, every byte and every lent number compared. Prints what was tried by
+//! number, and how many differences there were; exits 1 on any.
 //!
 //!     differential [--small] [--seed N]
 //!
 //! --small tries a hundredth of it, for valgrind.
+mod areas;
 #[path = "../../include/haldurap.rs"]
 mod haldurap;
 mod random;
@@ -84,9 +85,13 @@ fn limit(i: usize, count: u64) -> u64 {
 
 // ---- Counting
 
-const CALLS: [&str; 22] = [
+/// None, and the numbers of refusals.
+const NUMBERS: usize = 19;
+
+const CALLS: [&str; 25] = [
     "layout", "open", "add", "total", "urban", "rural", "highway", "cold", "balance", "co2", "so2", "lead", "map_row",
     "figure_urban", "figure_rural", "figure_highway", "figure_cold", "report", "sheet", "report_sheet", "add_list", "in_order",
+    "open_areas", "add_area", "area_run",
 ];
 const LAYOUT: usize = 0;
 const OPEN: usize = 1;
@@ -104,10 +109,13 @@ const SHEET: usize = 18;
 const REPORT_SHEET: usize = 19;
 const ADD_LIST: usize = 20;
 const IN_ORDER: usize = 21;
+const OPEN_AREAS: usize = 22;
+const ADD_AREA: usize = 23;
+const AREA_RUN: usize = 24;
 
 struct Held {
     /// By call and number.
-    tried: [[u64; 17]; CALLS.len()],
+    tried: [[u64; NUMBERS]; CALLS.len()],
     not_given: u64,
     buffers: u64,
     out_of_order: u64,
@@ -115,20 +123,19 @@ struct Held {
     seasons: [u64; 3],
     /// Records in lists, and the first refused ones by number.
     listed: u64,
-    passed_over: [u64; 17],
+    passed_over: [u64; NUMBERS],
     /// Sheets by the number beside their text, and how often that text had no room.
-    texts: [u64; 17],
-    no_room: [u64; 17],
-    edits: [[u64; 17]; random::EDITS.len()],
+    texts: [u64; NUMBERS],
+    no_room: [u64; NUMBERS],
+    edits: [[u64; NUMBERS]; random::EDITS.len()],
+    areas: areas::Tried,
     differences: u64,
 }
 
 impl Held {
     /// Counts one answer, and compares it with what the reference says.
     fn same<T: PartialEq + Debug>(&mut self, call: usize, number: u64, ours: T, theirs: T, input: impl FnOnce() -> String) {
-        if number <= 16 {
-            self.tried[call][number as usize] += 1;
-        }
+        self.tried[call][number as usize] += 1;
         if ours != theirs {
             self.differ(|| format!("in {}: {}\n  archive   {ours:?}\n  reference {theirs:?}", CALLS[call], input()));
         }
@@ -673,16 +680,17 @@ fn main() {
     let part = if small { 100 } else { 1 };
     let mut r = Random(seed);
     let mut held = Held {
-        tried: [[0; 17]; CALLS.len()],
+        tried: [[0; NUMBERS]; CALLS.len()],
         not_given: 0,
         buffers: 0,
         out_of_order: 0,
         seasons: [0; 3],
         listed: 0,
-        passed_over: [0; 17],
-        texts: [0; 17],
-        no_room: [0; 17],
-        edits: [[0; 17]; random::EDITS.len()],
+        passed_over: [0; NUMBERS],
+        texts: [0; NUMBERS],
+        no_room: [0; NUMBERS],
+        edits: [[0; NUMBERS]; random::EDITS.len()],
+        areas: areas::Tried::default(),
         differences: 0,
     };
     println!("seed {seed}{}", if small { ", a hundredth" } else { "" });
@@ -759,22 +767,32 @@ fn main() {
     sheets(&mut held, &mut r, 205_000 / part);
     lists(&mut held, &mut r, 60_000 / part, small);
     runs += every_factor(&mut held, &mut r);
+    areas::areas(&mut held, &mut r, small);
 
     println!("runs opened and added to: {runs}, of them full: {full}; runs in order made up: {made}; runs out of order: {}", held.out_of_order);
     println!("adds: {}; sheets: {}; buffers compared whole: {}; figures not given: {}", held.of(ADD), held.of(SHEET), held.buffers, held.not_given);
     println!("lists: {}, with {} records", held.of(ADD_LIST), held.listed);
     let [warm, cold, mixed] = held.seasons;
     println!("adds of classes 3 and 2 beside each other: {warm} in warm, {cold} in cold, {mixed} in mixed years");
+    let areas::Tried { lists, made, out_of_order, limits } = &held.areas;
+    println!(
+        "areas: {} opened, {} adds; lists until every area was full: {lists}; in order made up: {made}; out of order: {out_of_order}",
+        held.of(OPEN_AREAS),
+        held.of(ADD_AREA)
+    );
     println!("\nanswers by number:");
     print!("{:>16}", "");
-    (0..=16).for_each(|n| print!("{n:>9}"));
+    (0..NUMBERS).for_each(|n| print!("{n:>9}"));
     println!();
     for (call, tried) in held.tried.iter().enumerate().filter(|(_, t)| t.iter().any(|&n| n > 0)) {
         print!("{:>16}", CALLS[call]);
         tried.iter().for_each(|n| print!("{:>9}", if *n == 0 { "-".into() } else { n.to_string() }));
         println!();
     }
-    let by_number = |tried: &[u64; 17]| (0..=16).filter(|&n| tried[n] > 0).map(|n| format!("{n}: {}", tried[n])).collect::<Vec<_>>().join(", ");
+    let by_number = |tried: &[u64; NUMBERS]| (0..NUMBERS).filter(|&n| tried[n] > 0).map(|n| format!("{n}: {}", tried[n])).collect::<Vec<_>>().join(", ");
+    let [met, passed] = limits;
+    println!("\nlimits of areas by number, met:  {}", by_number(met));
+    println!("and passed:  {}", by_number(passed));
     println!("\nlists by the number of their first refused record:  {}", by_number(&held.passed_over));
     println!("texts of sheets by the sheet's own number:  {}", by_number(&held.texts));
     println!("of them without room (14) by the sheet's own number:  {}", by_number(&held.no_room));

@@ -1,5 +1,5 @@
-//! Random and boundary heads, records, runs and sheets.
-use crate::reference::{Head, Record, Run, Sum};
+//! Random and boundary heads, records, runs, areas and sheets.
+use crate::reference::{Areas, Head, Record, Run, Sum};
 
 /// SplitMix64.
 pub struct Random(pub u64);
@@ -175,6 +175,10 @@ pub fn any_run_in_order(r: &mut Random) -> Run {
         1..=3 => r.scaled(0, 5000),
         _ => r.from_to(0, 5000),
     };
+    run_of_count(r, count)
+}
+
+fn run_of_count(r: &mut Random, count: u64) -> Run {
     // Small sums too, so that kinds and totals below a gram and reports with lines left out occur.
     let most = if r.one_in(3) { r.from_to(0, 3).min(count) } else { 1_000_000_000_000 * count };
     let mut run = Run { trip: r.from_to(10, 200), count, ..Run::default() };
@@ -188,6 +192,40 @@ pub fn any_run_in_order(r: &mut Random) -> Run {
         *sum = sum_up_to(r, most);
     }
     run
+}
+
+// ---- Areas in order that no list of adds may have given
+
+/// How many records each area has: below, at and beyond its 300, the common 200 used by none, by some or by all.
+fn counts(r: &mut Random) -> [u64; 16] {
+    let usual = r.of(&[0, 1, 299, 300]);
+    let mut counts = std::array::from_fn(|_| match r.below(8) {
+        0..=2 => usual,
+        3 => r.of(&[0, 1, 299, 300]),
+        _ => r.scaled(0, 300),
+    });
+    let any = r.from_to(0, 200);
+    let mut left = r.of(&[0, 1, 199, 200, any]);
+    let most = r.of(&[1, 13, 100, 200]);
+    while left > 0 {
+        let area = r.place(16);
+        let more = r.from_to(1, left.min(most));
+        counts[area] = counts[area].max(300) + more;
+        left -= more;
+    }
+    counts
+}
+
+/// Areas in order with these counts.
+pub fn areas_of_counts(r: &mut Random, counts: [u64; 16]) -> Areas {
+    let head = run_of_count(r, 0);
+    let runs = counts.map(|count| Run { trip: head.trip, x: head.x, x_class_3: head.x_class_3, ..run_of_count(r, count) });
+    Areas { runs, common: counts.iter().map(|count| count.saturating_sub(300)).sum() }
+}
+
+pub fn any_areas_in_order(r: &mut Random) -> Areas {
+    let counts = counts(r);
+    areas_of_counts(r, counts)
 }
 
 // ---- Sheets

@@ -1,7 +1,8 @@
 //! The inventory in plain Rust: ordinary structs, u128 and i128 wherever a product might be large. Written from the
-//! customer's request ("COPERT II inventory core", its document 01, and job 1 of document 02, of which docs/SPECIFICATION.md
-//! says the same in our own words); lists of records and the number and line beside a text are from that page itself. Nothing
-//! here comes from the Rattle code. A refusal is its number in the table of refusals. Fuels, quantities and kinds count from 0 inside arrays and from 1 where a caller hands them in.
+//! customer's request ("COPERT II inventory core", its document 01, and jobs 1 and 3 of document 02, of which
+//! docs/SPECIFICATION.md says the same in our own words); lists of records and the number and line beside a text are from that
+//! page itself. Nothing here comes from the Rattle code. A refusal is its number in the table of refusals. Fuels, quantities
+//! and kinds count from 0 inside arrays and from 1 where a caller hands them in; areas count from 0.
 #![allow(dead_code)]
 
 pub const URBAN: usize = 0;
@@ -260,6 +261,12 @@ impl Run {
         if self.count >= MOST_RECORDS {
             return Err(9);
         }
+        self.take(r);
+        Ok(())
+    }
+
+    /// Adds a record that no number fits.
+    fn take(&mut self, r: &Record) {
         let k = r.vehicles as u128 * r.km as u128;
         let fuel = fuel_of(r.class);
         for quantity in 0..5 {
@@ -277,7 +284,6 @@ impl Run {
         }
         self.km[fuel] += k as u64;
         self.count += 1;
-        Ok(())
     }
 
     /// 16, then 11; else the places of a fuel and a quantity.
@@ -392,6 +398,74 @@ fn write_text(text: &str, buffer: &mut [u8]) -> Result<usize, u64> {
     let front = buffer.get_mut(..text.len()).ok_or(14u64)?;
     front.copy_from_slice(text.as_bytes());
     Ok(text.len())
+}
+
+// ---- Sixteen areas
+
+/// Records that each area has for itself, and records for whoever comes first.
+const OWN_RECORDS: u64 = 300;
+const COMMON_RECORDS: u64 = 200;
+
+#[derive(Clone, Debug, Default, PartialEq)]
+pub struct Areas {
+    pub runs: [Run; 16],
+    /// How many of the common records are used.
+    pub common: u64,
+}
+
+/// Opens all areas under one head, or refuses with 1 or 2.
+pub fn open_areas(head: &Head) -> Result<Areas, u64> {
+    let run = open(head)?;
+    Ok(Areas { runs: std::array::from_fn(|_| run.clone()), common: 0 })
+}
+
+impl Areas {
+    /// Every run in order, all of one head, and the common use that of the records beyond 300, at most 200.
+    pub fn in_order(&self) -> bool {
+        let mut beyond = 0u128;
+        for run in &self.runs {
+            // L and X are all that a run keeps of its head
+            let head = &self.runs[0];
+            if !run.in_order() || run.trip != head.trip || run.x != head.x || run.x_class_3 != head.x_class_3 {
+                return false;
+            }
+            if run.count > OWN_RECORDS {
+                beyond += (run.count - OWN_RECORDS) as u128;
+            }
+        }
+        self.common as u128 == beyond && self.common <= COMMON_RECORDS
+    }
+
+    /// Adds a record to an area, or refuses with 16, 17, 3 to 8, then 18, and changes nothing.
+    pub fn add(&mut self, area: u64, r: &Record) -> Result<(), u64> {
+        self.place(area)?;
+        if let Some(number) = record_fault(r) {
+            return Err(number);
+        }
+        let run = &mut self.runs[area as usize];
+        if run.count < OWN_RECORDS {
+            run.take(r);
+        } else if self.common < COMMON_RECORDS {
+            run.take(r);
+            self.common += 1;
+        } else {
+            return Err(18);
+        }
+        Ok(())
+    }
+
+    /// The run of an area, or 16, 17.
+    pub fn run(&self, area: u64) -> Result<Run, u64> {
+        self.place(area)?;
+        Ok(self.runs[area as usize].clone())
+    }
+
+    fn place(&self, area: u64) -> Result<(), u64> {
+        if !self.in_order() {
+            return Err(16);
+        }
+        if area > 15 { Err(17) } else { Ok(()) }
+    }
 }
 
 // ---- Sheets

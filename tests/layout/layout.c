@@ -32,6 +32,8 @@ static void as_documented(void) {
     FIELD(haldurap_record, shares, 24, 24), FIELD(haldurap_record, speeds, 48, 24);
     SIZE(haldurap_run, 1128), PLACE(haldurap_run, trip, 0), FIELD(haldurap_run, x, 8, 128), PLACE(haldurap_run, count, 136);
     FIELD(haldurap_run, km, 144, 24), FIELD(haldurap_run, grams, 168, 480), FIELD(haldurap_run, rests, 648, 480);
+    SIZE(haldurap_areas, 18056), FIELD(haldurap_areas, runs, 0, 18048), PLACE(haldurap_areas, common, 18048);
+    same(sizeof(haldurap_areas), 8 * HALDURAP_AREAS_NUMBERS, "HALDURAP_AREAS_NUMBERS", 0);
     SIZE(haldurap_run_answer, 1136), PLACE(haldurap_run_answer, number, 0), FIELD(haldurap_run_answer, run, 8, 1128);
     SIZE(haldurap_grams_answer, 16), PLACE(haldurap_grams_answer, number, 0), PLACE(haldurap_grams_answer, grams, 8);
     SIZE(haldurap_balance_answer, 24), PLACE(haldurap_balance_answer, number, 0), PLACE(haldurap_balance_answer, k, 8);
@@ -79,6 +81,8 @@ static void written(size_t size, const char *what) {
         written(sizeof(type), "bytes that " #call " writes"); \
     } while (0)
 
+static haldurap_areas opened(void);
+
 static void sizes_written(haldurap_run run) {
     memset(zeros, 0, ROOM), memset(ones, 255, ROOM);
     WRITTEN(haldurap_run_answer, haldurap_open, (void *, haldurap_head), head);
@@ -95,6 +99,9 @@ static void sizes_written(haldurap_run run) {
         WRITTEN(haldurap_text_answer, haldurap_report_sheet, (void *, const uint8_t *, size_t, uint8_t *, size_t), (const uint8_t *)"x", 1, buffer, room);
     for (size_t length = 8; length <= 9; length++)
         WRITTEN(haldurap_list_answer, haldurap_add_list, (void *, haldurap_head, const uint64_t *, size_t), head, (const uint64_t *)&record, length);
+    const haldurap_areas a = opened();
+    for (uint64_t area = 15; area <= 16; area++)
+        WRITTEN(haldurap_run_answer, haldurap_area_run, (void *, const haldurap_areas *, size_t, uint64_t), &a, HALDURAP_AREAS_NUMBERS, area);
 }
 #else
 static void sizes_written(haldurap_run run) { (void)run; }
@@ -301,6 +308,152 @@ static void orders(haldurap_run run) {
     }
 }
 
+/* Lent areas, with numbers in front and behind that no call may touch. */
+static struct lent {
+    uint64_t front;
+    haldurap_areas areas;
+    uint64_t behind[HALDURAP_AREAS_NUMBERS];
+} lent, before;
+
+static haldurap_areas opened(void) {
+    haldurap_areas a;
+    same(haldurap_open_areas(&a, HALDURAP_AREAS_NUMBERS, head), 0, "open_areas", 0);
+    return a;
+}
+
+/* Whether the lent numbers are those of before, byte for byte. */
+static void stays(const char *what, int i) {
+    same(memcmp(&lent, &before, sizeof lent), 0, what, i);
+}
+
+/* Adding to an area and asking for its run give these numbers; a refused add leaves every number, a refused run is zeros. */
+static void tried(uint64_t adding, uint64_t asking, uint64_t area, const char *what, int i) {
+    static const haldurap_run zero;
+    before = lent;
+    haldurap_run_answer a = haldurap_area_run(&lent.areas, HALDURAP_AREAS_NUMBERS, area);
+    same(a.number, asking, what, i), same(memcmp(&a.run, asking ? &zero : &lent.areas.runs[area], sizeof zero), 0, what, i), stays(what, i);
+    same(haldurap_add_area(&lent.areas, HALDURAP_AREAS_NUMBERS, area, record), adding, what, i);
+    if (adding != 0) stays(what, i);
+    lent = before;
+}
+
+/* Areas: every run and the common use by calls, as runs are tried above. */
+static void areas(haldurap_run fresh) {
+    static const haldurap_run zero;
+    static const haldurap_areas nothing;
+    haldurap_run_answer a;
+    /* opened over ones: every number of the areas is written, and no other */
+    memset(&lent, 255, sizeof lent), before = lent;
+    for (int i = 0; i < 16; i++) before.areas.runs[i] = fresh;
+    before.areas.common = 0;
+    same(haldurap_open_areas(&lent.areas, HALDURAP_AREAS_NUMBERS, head), 0, "open_areas", 1), stays("opened areas", 0);
+    haldurap_head wrong = head;
+    for (int i = 0; i < 2; i++) {
+        /* a refused head: zeros */
+        if (i == 0) wrong.temps[11] = 401; else wrong.trip = 9;
+        memset(&lent, 255, sizeof lent), before = lent, before.areas = nothing;
+        same(haldurap_open_areas(&lent.areas, HALDURAP_AREAS_NUMBERS, wrong), i == 0 ? HALDURAP_TEMPERATURE : HALDURAP_TRIP_LENGTH, "open_areas", 2);
+        stays("areas of a refused head", i);
+    }
+    tried(16, 16, 0, "areas of zeros", 0);
+    tried(16, 16, 16, "areas of zeros", 1);
+    /* another length, 16 before all else, and every number stays */
+    static const size_t lengths[] = {0, 1, 141, 2256, 2258, 4514};
+    lent.areas = opened();
+    for (int i = 0; i < 6; i++) {
+        before = lent;
+        same(haldurap_open_areas(&lent.areas, lengths[i], head), HALDURAP_RUN_ORDER, "length in open_areas", i);
+        same(haldurap_open_areas(&lent.areas, lengths[i], wrong), HALDURAP_RUN_ORDER, "length in open_areas", i);
+        same(haldurap_add_area(&lent.areas, lengths[i], 3, record), HALDURAP_RUN_ORDER, "length in add_area", i);
+        same(haldurap_add_area(&lent.areas, lengths[i], 16, (haldurap_record){0}), HALDURAP_RUN_ORDER, "length in add_area", i);
+        a = haldurap_area_run(&lent.areas, lengths[i], i % 2 ? 3 : 16);
+        same(a.number, HALDURAP_RUN_ORDER, "length in area_run", i), same(memcmp(&a.run, &zero, sizeof zero), 0, "run of zeros", i);
+        stays("areas of another length", i);
+    }
+    /* no such area, before the record's own numbers; no cut to the lower half of a word */
+    static const uint64_t none[] = {16, 17, HIGH, HIGH + 3, UINT64_MAX};
+    for (int i = 0; i < 5; i++) {
+        before = lent;
+        same(haldurap_add_area(&lent.areas, HALDURAP_AREAS_NUMBERS, none[i], record), HALDURAP_NO_AREA, "area in add_area", i);
+        same(haldurap_add_area(&lent.areas, HALDURAP_AREAS_NUMBERS, none[i], (haldurap_record){0}), HALDURAP_NO_AREA, "area in add_area", i);
+        a = haldurap_area_run(&lent.areas, HALDURAP_AREAS_NUMBERS, none[i]);
+        same(a.number, HALDURAP_NO_AREA, "area in area_run", i), same(memcmp(&a.run, &zero, sizeof zero), 0, "run of zeros", i);
+        stays("areas without this one", i);
+    }
+    /* a record of its own in each area: its run is that of haldurap_add, and nothing else changes */
+    for (int i = 0; i < 16; i++) {
+        haldurap_record own = record;
+        own.vehicle_class = (uint64_t)i % 7 + 1, own.vehicles += (uint64_t)i;
+        before = lent, before.areas.runs[i] = haldurap_add(fresh, own).run;
+        same(haldurap_add_area(&lent.areas, HALDURAP_AREAS_NUMBERS, (uint64_t)i, own), 0, "add_area", i), stays("areas with a record", i);
+    }
+    for (int i = 0; i < 16; i++) {
+        a = haldurap_area_run(&lent.areas, HALDURAP_AREAS_NUMBERS, (uint64_t)i);
+        same(a.number, 0, "area_run", i), same(memcmp(&a.run, &lent.areas.runs[i], sizeof a.run), 0, "run of an area", i);
+        stays("areas that were asked", i);
+    }
+    /* each field of a record is refused with its own number, as in haldurap_add */
+    static const uint64_t why[] = {HALDURAP_CLASS, HALDURAP_VEHICLES, HALDURAP_KILOMETRES, HALDURAP_SHARES, HALDURAP_SHARES, HALDURAP_SHARES,
+                                   HALDURAP_SPEED, HALDURAP_SPEED, HALDURAP_SPEED};
+    for (int i = 0; i < HALDURAP_RECORD_NUMBERS; i++) {
+        haldurap_record one = record;
+        ((uint64_t *)&one)[i] += HIGH, before = lent;
+        same(haldurap_add_area(&lent.areas, HALDURAP_AREAS_NUMBERS, 3, one), why[i], "record in add_area", i), stays("areas without a record", i);
+    }
+    /* each number out of its range, whichever area is asked */
+    haldurap_areas good = lent.areas;
+    for (int i = 0; i < HALDURAP_AREAS_NUMBERS; i++)
+        lent.areas = good, ((uint64_t *)&lent.areas)[i] |= 1ull << 63, tried(16, 16, (uint64_t)i % 17, "areas with a damaged number", i);
+    for (int i = 0; i < 16; i++) {
+        const uint64_t area = (uint64_t)i, other = (area + 5) % 16;
+        haldurap_run *r = &lent.areas.runs[i];
+        /* each limit of a run, in each area: the last good value is taken, the next is not */
+#define AREA_LIMIT(field, most) do { \
+            lent.areas = good, *r = fresh, r->count = 3, r->field = most, tried(0, 0, other, "areas." #field " at its limit", i); \
+            lent.areas = good, *r = fresh, r->count = 3, r->field = most + 1, tried(16, 16, other, "areas." #field " over it", i); \
+        } while (0)
+        for (int j = 0; j < 3; j++) AREA_LIMIT(km[j], 3000000000ull);
+        for (int j = 0; j < 60; j++) AREA_LIMIT(grams[j], 3000000000000ull);
+        for (int j = 0; j < 60; j++) AREA_LIMIT(rests[j], 999999999ull);
+        /* L and each X, good by themselves, but another head's */
+        lent.areas = good, r->trip = 121, tried(16, 16, other, "areas.trip of another head", i);
+        for (int j = 0; j < 16; j++) {
+            lent.areas = good, r->x[j] += 1, tried(16, 16, other, "areas.x of another head", i);
+            lent.areas = good;
+            for (int k = 0; k < 16; k++) lent.areas.runs[k].x[j] = 4900000000;
+            tried(0, 0, area, "areas.x at its limit", j);
+            for (int k = 0; k < 16; k++) lent.areas.runs[k].x[j] = 4900000001;
+            tried(16, 16, area, "areas.x over it", j);
+        }
+        for (uint64_t trip = 200; trip <= 201; trip++) {
+            lent.areas = good;
+            for (int k = 0; k < 16; k++) lent.areas.runs[k].trip = trip;
+            tried(trip == 200 ? 0 : 16, trip == 200 ? 0 : 16, area, "areas.trip, the same in all", i);
+        }
+        /* count and common: common is what this area has beyond 300 and the other beyond 300, never less for one below */
+        static const struct { uint64_t count, others, common, adding, asking; } counts[] = {
+            {299, 1, 0, 0, 0}, {300, 1, 0, 0, 0}, {301, 1, 1, 0, 0}, {301, 299, 1, 0, 0}, {499, 1, 199, 0, 0}, {500, 1, 200, 18, 0},
+            {300, 500, 200, 18, 0}, {299, 500, 200, 0, 0}, {301, 499, 200, 18, 0}, {400, 399, 199, 0, 0}, {400, 400, 200, 18, 0},
+            {299, 1, 1, 16, 16}, {300, 1, 1, 16, 16}, {301, 1, 0, 16, 16}, {301, 1, 2, 16, 16}, {301, 299, 0, 16, 16}, {500, 1, 199, 16, 16},
+            {500, 1, 201, 16, 16}, {501, 1, 201, 16, 16}, {501, 1, 200, 16, 16}, {401, 400, 201, 16, 16}, {400, 400, 100, 16, 16},
+            {5000, 1, 4700, 16, 16}, {5001, 1, 4701, 16, 16},
+        };
+        for (int j = 0; j < (int)(sizeof counts / sizeof counts[0]); j++) {
+            lent.areas = good, r->count = counts[j].count, lent.areas.runs[other].count = counts[j].others, lent.areas.common = counts[j].common;
+            tried(counts[j].adding, counts[j].asking, area, "areas.runs.count, areas.common", j);
+            if (counts[j].adding != 0) continue;
+            before = lent, before.areas.runs[i] = haldurap_add(*r, record).run, before.areas.common += counts[j].count >= 300;
+            same(haldurap_add_area(&lent.areas, HALDURAP_AREAS_NUMBERS, area, record), 0, "add_area", j), stays("areas with one more", j);
+        }
+        /* 18 comes after the record's own numbers */
+        haldurap_record fast = record;
+        fast.speeds.highway = 131;
+        lent.areas = good, r->count = 500, lent.areas.common = 200;
+        same(haldurap_add_area(&lent.areas, HALDURAP_AREAS_NUMBERS, area, fast), HALDURAP_SPEED, "add_area to a full area", i);
+        same(haldurap_add_area(&lent.areas, HALDURAP_AREAS_NUMBERS, area, record), HALDURAP_FULL_AREA, "add_area to a full area", i);
+    }
+}
+
 int main(void) {
     haldurap_run fresh = haldurap_open(head).run, run = haldurap_add(fresh, record).run;
     as_documented();
@@ -311,6 +464,7 @@ int main(void) {
     texts();
     lists(run);
     orders(run);
+    areas(fresh);
     printf("C: %d sizes, offsets and values compared, %s\n", checked, failed ? "SOME DIFFER" : "all the same");
     return failed;
 }

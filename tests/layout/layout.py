@@ -28,6 +28,7 @@ DOCUMENTED = {
     h.Speeds: (24, {"urban": 0, "rural": 8, "highway": 16}),
     h.Record: (72, {"vehicle_class": 0, "vehicles": 8, "km": 16, "shares": 24, "speeds": 48}),
     h.Run: (1128, {"trip": 0, "x": 8, "count": 136, "km": 144, "grams": 168, "rests": 648}),
+    h.Areas: (18056, {"runs": 0, "common": 18048}),
     h.RunAnswer: (1136, {"number": 0, "run": 8}),
     h.GramsAnswer: (16, {"number": 0, "grams": 8}),
     h.BalanceAnswer: (24, {"number": 0, "k": 8, "grams": 16}),
@@ -46,6 +47,7 @@ def as_documented():
         same(sizeof(struct), size, "size of " + struct.__name__)
         same({name: getattr(struct, name).offset for name, _ in struct._fields_}, offsets, struct.__name__)
         same(sum(getattr(struct, name).size for name, _ in struct._fields_), size, "fields of " + struct.__name__)
+    same(sizeof(h.Areas), 8 * h.AREAS_NUMBERS, "AREAS_NUMBERS")
 
 
 def head():
@@ -73,8 +75,10 @@ def sizes_written(run):
     if platform.machine() != "x86_64" or os.name != "posix":
         return
     values = {"open": (head(),), "add": (run, record()), "balance": (run, 1, 1, 1000), "sheet": ((c_uint8 * 1)(120), 1),
-              "report_sheet": ((c_uint8 * 1)(120), 1, (c_uint8 * 17)(), 17), "add_list": (head(), (c_uint64 * 9)(*record().numbers()), 9)}
-    for name in ("open", "add", "balance", "map_row", "figure_urban", "figure_rural", "figure_highway", "figure_cold", "sheet", "report_sheet", "add_list"):
+              "report_sheet": ((c_uint8 * 1)(120), 1, (c_uint8 * 17)(), 17), "add_list": (head(), (c_uint64 * 9)(*record().numbers()), 9),
+              "area_run": (h.open_areas(head()), h.AREAS_NUMBERS, 15)}
+    for name in ("open", "add", "balance", "map_row", "figure_urban", "figure_rural", "figure_highway", "figure_cold", "sheet", "report_sheet",
+                 "add_list", "area_run"):
         parameters, answer = h._CALLS[name]
         raw = ctypes.CFUNCTYPE(c_void_p, c_void_p, *parameters)(("haldurap_" + name, h._lib))
         places = [(c_uint8 * 4096)(*[byte] * 4096) for byte in (0, 255)]
@@ -212,6 +216,104 @@ def orders(fresh, run):
         same(h._call("in_order")(h.Run.from_buffer_copy(data)), 0, "in_order of a damaged word")
 
 
+def numbers_of(lent):
+    return (c_uint64 * h.AREAS_NUMBERS).from_buffer_copy(lent)
+
+
+def tried(lent, area, adding, asking, what):
+    """Adding to an area and asking for its run give these numbers; a refused add leaves every number, a refused run is zeros."""
+    before = bytes(lent)
+    a = h._call("area_run")(lent, h.AREAS_NUMBERS, area)
+    run = bytes(1128) if asking else before[1128 * area:1128 * area + 1128]
+    same((a.number, bytes(a.run) == run, bytes(lent) == before), (asking, True, True), what)
+    lent = h.Areas.from_buffer_copy(before)
+    same((h._call("add_area")(lent, h.AREAS_NUMBERS, area, record()), bytes(lent) == before), (adding, adding != 0), what)
+
+
+def areas(fresh):
+    """Areas: every run and the common use by calls, as runs are tried above."""
+    open_areas, add_area, area_run, size = h._call("open_areas"), h._call("add_area"), h._call("area_run"), h.AREAS_NUMBERS
+    cold, opened = h.head(9, [100] * 12), bytes(fresh) * 16 + bytes(8)
+    for area in (0, 16):
+        tried(h.Areas(), area, 16, 16, "areas of zeros")
+    for a_head, number, wanted in ((head(), 0, opened), (cold, 1, bytes(18056)), (h.head(120, [401] * 12), 2, bytes(18056))):
+        # opened over ones, with more behind: every number of the areas is written, and no other
+        lent = (c_uint64 * (2 * size))(*[2**64 - 1] * (2 * size))
+        same(open_areas(ctypes.cast(lent, h._AREAS), size, a_head), number, "open_areas")
+        same(bytes(lent) == wanted + b"\xff" * 18056, True, "areas after open_areas")
+    # another length, 16 before all else, and every number stays
+    lent = (c_uint64 * (2 * size)).from_buffer_copy(opened * 2)
+    place = ctypes.cast(lent, h._AREAS)
+    for length in (0, 1, 141, size - 1, size + 1, 2 * size):
+        same([open_areas(place, length, head()), open_areas(place, length, cold)], [16, 16], "another length")
+        same([add_area(place, length, 3, record()), add_area(place, length, 16, record(vehicle_class=0))], [16, 16], "another length")
+        for area in (3, 16):
+            a = area_run(place, length, area)
+            same((a.number, bytes(a.run)), (16, bytes(1128)), "another length")
+        same(bytes(lent) == opened * 2, True, "areas of another length")
+    # no such area, before the record's own numbers; no cut to the lower half of a word
+    good = h.Areas.from_buffer_copy(opened)
+    for area in (16, 17, 2**32, 2**32 + 3, 2**64 - 1):
+        same([add_area(good, size, area, record()), add_area(good, size, area, record(vehicle_class=0))], [17, 17], "no such area")
+        a = area_run(good, size, area)
+        same((a.number, bytes(a.run), bytes(good) == opened), (17, bytes(1128), True), "no such area")
+    # a record of its own in each area: its run is that of the single add, and nothing else changes
+    wanted = h.Areas.from_buffer_copy(opened)
+    for i in range(16):
+        own = record(vehicle_class=i % 7 + 1, vehicles=1000 + i)
+        wanted.runs[i] = h.add(fresh, own)
+        same((add_area(good, size, i, own), bytes(good) == bytes(wanted)), (0, True), "add_area")
+    for i in range(16):
+        a = area_run(good, size, i)
+        same((a.number, bytes(a.run)), (0, bytes(good)[1128 * i:1128 * i + 1128]), "area_run")
+    same((good.common, bytes(good.runs)), (0, bytes(good)[:18048]), "Areas")
+    # each field of a record is refused with its own number, as in the single add
+    for i, why in enumerate((3, 4, 5, 7, 7, 7, 8, 8, 8)):
+        numbers, lent = record().numbers(), h.Areas.from_buffer_copy(good)
+        numbers[i] += 1 << 32
+        wrong = h.Record.from_buffer_copy((c_uint64 * 9)(*numbers))
+        same((add_area(lent, size, 3, wrong), bytes(lent) == bytes(good)), (why, True), "a record in add_area")
+    # each number out of its range, whichever area is asked
+    for i in range(size):
+        numbers = numbers_of(good)
+        numbers[i] |= 2**63
+        tried(h.Areas.from_buffer_copy(numbers), i % 17, 16, 16, "areas with number %d damaged" % i)
+    for i in range(16):
+        other = (i + 5) % 16
+        for name, most, places in (("km", 3000000000, 3), ("grams", 3000000000000, 60), ("rests", 999999999, 60)):
+            # each limit of a run, in each area: the last good value is taken, the next is not
+            for j in range(places):
+                for value, number in ((most, 0), (most + 1, 16)):
+                    lent = h.Areas.from_buffer_copy(good)
+                    lent.runs[i] = changed(fresh, count=3, **{name: (j, value)})
+                    tried(lent, other, number, number, "Areas.runs.%s at its limit and over it" % name)
+        for name, most, places in (("trip", 200, [None]), ("x", 4900000000, range(16))):
+            # L and each X, good by themselves, but another head's; the same in all, up to their limits
+            for j in places:
+                lent = h.Areas.from_buffer_copy(good)
+                lent.runs[i] = changed(lent.runs[i], trip=121) if j is None else changed(lent.runs[i], x=(j, lent.runs[i].x[j] + 1))
+                tried(lent, other, 16, 16, "Areas.runs.%s of another head" % name)
+                for value, number in ((most, 0), (most + 1, 16)):
+                    lent.runs = [changed(run, **{name: value if j is None else (j, value)}) for run in good.runs]
+                    tried(lent, i, number, number, "Areas.runs.%s of one head" % name)
+        # common is what the areas have beyond 300, and never less for one below: taken, full (18), not in order (16)
+        for count, others, common, adding in (
+                (299, 1, 0, 0), (300, 1, 0, 0), (301, 1, 1, 0), (301, 299, 1, 0), (499, 1, 199, 0), (299, 500, 200, 0), (400, 399, 199, 0),
+                (500, 1, 200, 18), (300, 500, 200, 18), (301, 499, 200, 18), (400, 400, 200, 18),
+                (299, 1, 1, 16), (300, 1, 1, 16), (301, 1, 0, 16), (301, 1, 2, 16), (301, 299, 0, 16), (500, 1, 199, 16), (500, 1, 201, 16),
+                (501, 1, 201, 16), (501, 1, 200, 16), (401, 400, 201, 16), (400, 400, 100, 16), (5000, 1, 4700, 16), (5001, 1, 4701, 16)):
+            lent = h.Areas.from_buffer_copy(good)
+            lent.runs[i].count, lent.runs[other].count, lent.common = count, others, common
+            tried(lent, i, adding, 16 if adding == 16 else 0, "Areas.runs.count, Areas.common")
+            if adding == 0:
+                wanted = h.Areas.from_buffer_copy(lent)
+                wanted.runs[i], wanted.common = h.add(lent.runs[i], record()), common + (1 if count >= 300 else 0)
+                same((add_area(lent, size, i, record()), bytes(lent) == bytes(wanted)), (0, True), "areas with one more")
+            if adding == 18:
+                # after the record's own numbers
+                same(add_area(lent, size, i, record(speeds=(20, 60, 131))), 8, "a full area")
+
+
 def main():
     fresh = h.open_run(head())
     run = h.add(fresh, record())
@@ -222,6 +324,7 @@ def main():
     answers(run)
     lists(fresh, run)
     orders(fresh, run)
+    areas(fresh)
     print("Python: %d sizes, offsets and values compared, %s" % (done, "SOME DIFFER" if failed else "all the same"))
     sys.exit(1 if failed else 0)
 

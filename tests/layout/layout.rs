@@ -51,6 +51,8 @@ fn as_documented(c: &mut Check) {
     struct_is!(c, Speeds, 24, urban 0, rural 8, highway 16);
     struct_is!(c, Record, 72, class 0, vehicles 8, km 16, shares 24, speeds 48);
     struct_is!(c, Run, 1128, trip 0, x 8, count 136, km 144, grams 168, rests 648);
+    struct_is!(c, Areas, 18056, runs 0, common 18048);
+    c.same(size_of::<Areas>(), 8 * AREAS_NUMBERS, "AREAS_NUMBERS");
     struct_is!(c, RunAnswer, 1136, number 0, run 8);
     struct_is!(c, GramsAnswer, 16, number 0, grams 8);
     struct_is!(c, BalanceAnswer, 24, number 0, k 8, grams 16);
@@ -106,6 +108,13 @@ fn sizes_written(c: &mut Check, run: Run) {
     let raw: extern "C" fn(*mut u8, Head, *const u64, usize) -> *mut u8 = unsafe { transmute(haldurap_add_list as List) };
     for length in [8, 9] {
         written(c, size_of::<ListAnswer>(), "add_list", |p| raw(p, HEAD, RECORD.numbers().as_ptr(), length));
+    }
+    type AreaRun = unsafe extern "C" fn(*const u64, usize, u64) -> RunAnswer;
+    let raw: extern "C" fn(*mut u8, *const u64, usize, u64) -> *mut u8 = unsafe { transmute(haldurap_area_run as AreaRun) };
+    let mut areas = Areas::zeros();
+    c.same(open_areas(&mut areas, HEAD), 0, "open_areas");
+    for area in [15, 16] {
+        written(c, size_of::<RunAnswer>(), "area_run", |p| raw(p, (&raw const areas).cast(), AREAS_NUMBERS, area));
     }
 }
 
@@ -287,6 +296,139 @@ fn orders(c: &mut Check, fresh: Run, run: Run) {
     }
 }
 
+/// Adding to an area and asking for its run give these numbers; a refused add leaves every number, a refused run is zeros.
+fn tried(c: &mut Check, areas: &Areas, area: u64, adding: u64, asking: u64, what: &str) {
+    let mut lent = areas.clone();
+    let run = if asking == 0 { areas.runs[area as usize] } else { ZEROS };
+    c.same((area_run(&lent, area), lent == *areas), (RunAnswer { number: asking, run }, true), what);
+    c.same((add_area(&mut lent, area, RECORD), lent == *areas), (adding, adding != 0), what);
+}
+
+fn areas_of(numbers: [u64; AREAS_NUMBERS]) -> Areas {
+    unsafe { transmute(numbers) }
+}
+
+fn numbers_of(areas: &Areas) -> [u64; AREAS_NUMBERS] {
+    unsafe { transmute(areas.clone()) }
+}
+
+/// Areas: every run and the common use by calls, as runs are tried above.
+fn areas(c: &mut Check, fresh: Run) {
+    let cold = Head { trip: 9, ..HEAD };
+    c.same(numbers_of(&Areas::zeros()), [0; AREAS_NUMBERS], "Areas::zeros");
+    tried(c, &Areas::zeros(), 0, 16, 16, "areas of zeros");
+    tried(c, &Areas::zeros(), 16, 16, 16, "areas of zeros");
+    // opened over ones: every number is written
+    for (head, why, wanted) in [
+        (HEAD, TAKEN, Areas { runs: [fresh; 16], common: 0 }),
+        (cold, TRIP_LENGTH, Areas::zeros()),
+        (Head { temps: [401; 12], ..HEAD }, TEMPERATURE, Areas::zeros()),
+    ] {
+        let mut areas = areas_of([u64::MAX; AREAS_NUMBERS]);
+        c.same(open_areas(&mut areas, head), why, "open_areas");
+        c.same(areas == wanted, true, "areas after open_areas");
+    }
+    let mut good = Areas { runs: [fresh; 16], common: 0 };
+    // another length, 16 before all else, and every number stays; no number behind the areas is touched
+    let mut lent = [&numbers_of(&good)[..], &[u64::MAX; AREAS_NUMBERS]].concat();
+    let (before, nothing) = (lent.clone(), Record { class: 0, ..RECORD });
+    for length in [0, 1, 141, AREAS_NUMBERS - 1, AREAS_NUMBERS + 1, 2 * AREAS_NUMBERS] {
+        let p = lent.as_mut_ptr();
+        let opening = unsafe { [haldurap_open_areas(p, length, HEAD), haldurap_open_areas(p, length, cold)] };
+        let adding = unsafe { [haldurap_add_area(p, length, 3, RECORD), haldurap_add_area(p, length, 16, nothing)] };
+        c.same((opening, adding), ([16; 2], [16; 2]), "another length");
+        for area in [3, 16] {
+            c.same(unsafe { haldurap_area_run(p, length, area) }, RunAnswer { number: 16, run: ZEROS }, "another length");
+        }
+        c.same(lent == before, true, "areas of another length");
+    }
+    c.same(unsafe { haldurap_open_areas(lent.as_mut_ptr(), AREAS_NUMBERS, cold) }, 1, "open_areas");
+    c.same((&lent[..AREAS_NUMBERS], &lent[AREAS_NUMBERS..]), (&[0; AREAS_NUMBERS][..], &before[AREAS_NUMBERS..]), "numbers behind the areas");
+    // no such area, before the record's own numbers; no cut to the lower half of a word
+    for area in [16, 17, 1 << 32, (1 << 32) + 3, u64::MAX] {
+        let mut areas = good.clone();
+        c.same((add_area(&mut areas, area, RECORD), add_area(&mut areas, area, nothing)), (NO_AREA, NO_AREA), "no such area");
+        c.same(area_run(&areas, area), RunAnswer { number: NO_AREA, run: ZEROS }, "no such area");
+        c.same(areas == good, true, "areas without this one");
+    }
+    // a record of its own in each area: its run is that of the single add, and nothing else changes
+    for i in 0..16 {
+        let record = Record { class: i % 7 + 1, vehicles: 1000 + i, ..RECORD };
+        let mut areas = good.clone();
+        good.runs[i as usize] = haldurap_add(fresh, record).run;
+        c.same((add_area(&mut areas, i, record), areas == good), (0, true), "add_area");
+    }
+    for i in 0..16 {
+        c.same(area_run(&good, i), RunAnswer { number: 0, run: good.runs[i as usize] }, "area_run");
+    }
+    // each field of a record is refused with its own number, as in the single add
+    for (i, why) in [CLASS, VEHICLES, KILOMETRES, SHARES, SHARES, SHARES, SPEED, SPEED, SPEED].into_iter().enumerate() {
+        let mut numbers = RECORD.numbers();
+        numbers[i] += 1 << 32;
+        let mut areas = good.clone();
+        let wrong: Record = unsafe { transmute(numbers) };
+        c.same((add_area(&mut areas, 3, wrong), areas == good), (why, true), "a record in add_area");
+    }
+    // each number out of its range, whichever area is asked
+    for i in 0..AREAS_NUMBERS {
+        let mut numbers = numbers_of(&good);
+        numbers[i] |= 1 << 63;
+        tried(c, &areas_of(numbers), i as u64 % 17, 16, 16, "areas with a damaged number");
+    }
+    for i in 0..16 {
+        let other = (i + 5) % 16;
+        let changed = |change: &dyn Fn(&mut Areas)| {
+            let mut areas = good.clone();
+            change(&mut areas);
+            areas
+        };
+        // each limit of a run, in each area: the last good value is taken, the next is not
+        let mut limit = |most: u64, field: &dyn Fn(&mut Run) -> &mut u64| {
+            for (value, number) in [(most, 0), (most + 1, 16)] {
+                let areas = changed(&|a| {
+                    a.runs[i] = Run { count: 3, ..fresh };
+                    *field(&mut a.runs[i]) = value;
+                });
+                tried(c, &areas, other as u64, number, number, "Areas.runs at its limit and over it");
+            }
+        };
+        (0..3).for_each(|j| limit(3_000_000_000, &|r| &mut r.km[j]));
+        (0..60).for_each(|j| limit(3_000_000_000_000, &|r| &mut r.grams[j]));
+        (0..60).for_each(|j| limit(999_999_999, &|r| &mut r.rests[j]));
+        // L and each X, good by themselves, but another head's; the same in all, up to their limits
+        let mut of_head = |field: &dyn Fn(&mut Run) -> &mut u64, most: u64| {
+            tried(c, &changed(&|a| *field(&mut a.runs[i]) += 1), other as u64, 16, 16, "Areas.runs of another head");
+            for (value, number) in [(most, 0), (most + 1, 16)] {
+                let areas = changed(&|a| a.runs.iter_mut().for_each(|r| *field(r) = value));
+                tried(c, &areas, i as u64, number, number, "Areas.runs of one head");
+            }
+        };
+        of_head(&|r| &mut r.trip, 200);
+        (0..16).for_each(|j| of_head(&|r| &mut r.x[j], 4_900_000_000));
+        // common is what the areas have beyond 300, and never less for one below: taken, full (18), not in order (16)
+        for (count, others, common, adding) in [
+            (299, 1, 0, 0), (300, 1, 0, 0), (301, 1, 1, 0), (301, 299, 1, 0), (499, 1, 199, 0), (299, 500, 200, 0), (400, 399, 199, 0),
+            (500, 1, 200, 18), (300, 500, 200, 18), (301, 499, 200, 18), (400, 400, 200, 18),
+            (299, 1, 1, 16), (300, 1, 1, 16), (301, 1, 0, 16), (301, 1, 2, 16), (301, 299, 0, 16), (500, 1, 199, 16), (500, 1, 201, 16),
+            (501, 1, 201, 16), (501, 1, 200, 16), (401, 400, 201, 16), (400, 400, 100, 16), (5000, 1, 4700, 16), (5001, 1, 4701, 16),
+        ] {
+            let mut areas = changed(&|a| (a.runs[i].count, a.runs[other].count, a.common) = (count, others, common));
+            tried(c, &areas, i as u64, adding, if adding == 16 { 16 } else { 0 }, "Areas.runs.count, Areas.common");
+            if adding == 0 {
+                let mut wanted = areas.clone();
+                wanted.runs[i] = haldurap_add(areas.runs[i], RECORD).run;
+                wanted.common += (count >= 300) as u64;
+                c.same((add_area(&mut areas, i as u64, RECORD), areas == wanted), (0, true), "areas with one more");
+            }
+            if adding == 18 {
+                // after the record's own numbers
+                let fast = Record { speeds: Speeds { urban: 20, rural: 60, highway: 131 }, ..RECORD };
+                c.same(add_area(&mut areas, i as u64, fast), SPEED, "a full area");
+            }
+        }
+    }
+}
+
 fn main() {
     let mut c = Check { done: 0, failed: false };
     let fresh = haldurap_open(HEAD).run;
@@ -298,6 +440,7 @@ fn main() {
     answers(&mut c, run);
     lists(&mut c, fresh, run);
     orders(&mut c, fresh, run);
+    areas(&mut c, fresh);
     println!("Rust: {} sizes, offsets and values compared, {}", c.done, if c.failed { "SOME DIFFER" } else { "all the same" });
     std::process::exit(c.failed as i32);
 }

@@ -14,6 +14,7 @@ enum { ROOM = 1 << 18, MOST = 16384, FILL = 0xa5, RECORDS = 5001 };
 static const haldurap_head head = {120, {100, 100, 100, 100, 100, 100, 100, 100, 100, 100, 100, 100}};
 static const haldurap_record record = {6, 1000, 10000, {40, 40, 20}, {20, 60, 100}};
 static haldurap_run run;
+static haldurap_areas areas, other;
 static uint64_t numbers[RECORDS * HALDURAP_RECORD_NUMBERS];
 static uint8_t text[HALDURAP_MOST_TEXT], buffer[HALDURAP_REPORT_BYTES];
 static size_t length;
@@ -26,6 +27,9 @@ static void open_run(void) { kept = haldurap_open(head).number; }
 static void add(void) { kept = haldurap_add(run, record).number; }
 static void add_list(void) { kept = haldurap_add_list(head, numbers, RECORDS * HALDURAP_RECORD_NUMBERS).number; }
 static void in_order(void) { kept = haldurap_in_order(run); }
+static void open_areas(void) { kept = haldurap_open_areas(&other, HALDURAP_AREAS_NUMBERS, head); }
+static void add_area(void) { kept = haldurap_add_area(&areas, HALDURAP_AREAS_NUMBERS, 15, record); }
+static void area_run(void) { kept = haldurap_area_run(&areas, HALDURAP_AREAS_NUMBERS, 15).number; }
 static void total(void) { kept = haldurap_total(run, 2, 1).number; }
 static void urban(void) { kept = haldurap_urban(run, 2, 1).number; }
 static void rural(void) { kept = haldurap_rural(run, 2, 1).number; }
@@ -67,13 +71,18 @@ static size_t taken(void (*work)(void)) {
 int main(void) {
     for (int i = 0; i < RECORDS; i++) memcpy(numbers + i * HALDURAP_RECORD_NUMBERS, &record, sizeof record);
     run = haldurap_add_list(head, numbers, 100 * HALDURAP_RECORD_NUMBERS).run;
+    /* half of the areas in use, half empty */
+    if (haldurap_open_areas(&areas, HALDURAP_AREAS_NUMBERS, head) != 0) abort();
+    for (uint64_t area = 0; area < HALDURAP_AREAS; area += 2)
+        if (haldurap_add_area(&areas, HALDURAP_AREAS_NUMBERS, area, record) != 0) abort();
     length = (size_t)sprintf((char *)text, "%5d", 120);
     for (int month = 0; month < 12; month++) length += (size_t)sprintf((char *)text + length, "%5d", 100);
     length += (size_t)sprintf((char *)text + length, "\n");
     while (length + 50 < sizeof text) length += (size_t)sprintf((char *)text + length, " 6   1000  10000  40  40  20  20  60 100\n");
 
     static const struct { const char *name; void (*work)(void); } calls[] = {
-        {"layout", layout}, {"open", open_run}, {"add", add}, {"add_list", add_list}, {"in_order", in_order}, {"total", total},
+        {"layout", layout}, {"open", open_run}, {"add", add}, {"add_list", add_list}, {"in_order", in_order},
+        {"open_areas", open_areas}, {"add_area", add_area}, {"area_run", area_run}, {"total", total},
         {"urban", urban}, {"rural", rural}, {"highway", highway}, {"cold", cold}, {"balance", balance}, {"co2", co2}, {"so2", so2},
         {"lead", lead}, {"map_row", map_row}, {"figure_urban", figure_urban}, {"figure_rural", figure_rural},
         {"figure_highway", figure_highway}, {"figure_cold", figure_cold}, {"report", report}, {"sheet", sheet},

@@ -53,12 +53,12 @@ fn same_head(numbers: &[u64], at: usize) -> bool
     if numbers[0] != numbers[at] {
         return false;
     }
-    let mut k: usize = 0;
-    while k < 16 {
-        if numbers[1 + k] != numbers[at + 1 + k] {
+    let mut x: usize = 0;
+    while x < 16 {
+        if numbers[1 + x] != numbers[at + 1 + x] {
             return false;
         }
-        k += 1;
+        x += 1;
     }
     true
 }

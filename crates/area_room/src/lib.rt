@@ -32,8 +32,8 @@ pub fn common_after(count: u64, common: u64) -> u64
     requires { ⌜ common ≤ 200 ⌝ }
     ensures { λ r. ⌜ r ≡ commonAfter count common ⌝ }
 {
-    if 300 <= count {
-        return common + 1;
+    if count < 300 {
+        return common;
     }
-    common
+    common + 1
 }

@@ -1,6 +1,6 @@
 // Whether the sums of a run among the numbers of areas are in order, tested where they lie: no run is copied.
 ghost use mathlib.Core.Path.{_≡_};
-ghost use Prim.Native.Nat.{_+_, _/_, _≤_};
+ghost use Prim.Native.Nat.{_+_, _≤_};
 ghost use lib.ListN.{length};
 ghost use Rattle.units.specs.Lists.{allBelow};
 ghost use Rattle.inventory.specs.Order.{sumOk};
@@ -24,52 +24,50 @@ fn each_sum_ok(numbers: &[u64], at: usize, count: u64) -> bool
     true
 }
 
-// A 64th, rounded down: 60 of them stay in 64 bits.
-fn by_64(g: Grams) -> u64
-    ensures { λ r. ⌜ (r ≡ g .0 / 64) × (r ≤ 288230376151711744) ⌝ }
-{
-    g.0 / 64
-}
-
-// Of a run with records: sum by sum only where two sums over all 60 do not decide, which have no branch and are fast.
-fn some_sums_ok(numbers: &[u64], at: usize, count: u64) -> bool
-    requires { ⌜ at + 141 ≤ length (now numbers) ⌝ }
-    requires { ⌜ (count ≡ runAt (now numbers) at .count) × (count ≤ 5000) ⌝ }
-    ensures { λ b. ⌜ b ≡ allBelow (sumOk (runAt (now (numbers .entry)) at)) 60 ⌝ }
-{
-    let mut all: u64 = 0;
-    let mut over: u64 = 0;
-    let mut j: usize = 0;
-    while j < 60 {
-        all = all + by_64(Grams(numbers[at + 21 + j]));
-        over = over + order::rest_over(numbers[at + 81 + j]);
-        j += 1;
-    }
-    if over == 0 {
-        if all < 15625000000 * count {
-            return true;
-        }
-    }
-    each_sum_ok(numbers, at, count)
-}
-
-// Of a run without records: all are 0, which one `or` over them tells without a branch.
+// Of a run without records: all are 0, which two `or` over them tell without a branch.
 fn no_sums_ok(numbers: &[u64], at: usize) -> bool
     requires { ⌜ at + 141 ≤ length (now numbers) ⌝ }
     requires { ⌜ runAt (now numbers) at .count ≡ 0 ⌝ }
     ensures { λ b. ⌜ b ≡ allBelow (sumOk (runAt (now (numbers .entry)) at)) 60 ⌝ }
 {
-    let mut any: u64 = 0;
+    let mut grams: u64 = 0;
+    let mut rests: u64 = 0;
     let mut j: usize = 0;
     while j < 60 {
         let g = Grams(numbers[at + 21 + j]);
-        any = any | g.0 | numbers[at + 81 + j];
+        grams = grams | g.0;
+        rests = rests | numbers[at + 81 + j];
         j += 1;
     }
-    if any == 0 {
-        return true;
+    if grams == 0 {
+        if rests == 0 {
+            return true;
+        }
     }
     each_sum_ok(numbers, at, 0)
+}
+
+// Of a run with records: sum by sum only where two `or` over all 60 do not decide, which have no branch and are fast.
+fn some_sums_ok(numbers: &[u64], at: usize, count: u64) -> bool
+    requires { ⌜ at + 141 ≤ length (now numbers) ⌝ }
+    requires { ⌜ (count ≡ runAt (now numbers) at .count) × (count ≤ 5000) ⌝ }
+    ensures { λ b. ⌜ b ≡ allBelow (sumOk (runAt (now (numbers .entry)) at)) 60 ⌝ }
+{
+    let mut grams: u64 = 0;
+    let mut marks: u64 = 0;
+    let mut j: usize = 0;
+    while j < 60 {
+        let g = Grams(numbers[at + 21 + j]);
+        grams = grams | g.0;
+        marks = marks | order::rest_mark(numbers[at + 81 + j]);
+        j += 1;
+    }
+    if marks < 536870912 {
+        if grams < 1000000000000 * count {
+            return true;
+        }
+    }
+    each_sum_ok(numbers, at, count)
 }
 
 // Whether the sums of the run at a place are in order.

@@ -20,7 +20,8 @@ pub extern "C" fn haldurap_open_areas(numbers: &mut [u64], head: Head) -> u64
     ensures numbers { λ n. ⌜ now (numbers .exit) ≡ openAreasNumbers (now (numbers .entry)) head ⌝ }
 {
     let v = area_recording::open_areas(numbers, head);
-    units::verdict_number(v)
+    let opened = units::verdict_number(v);
+    opened
 }
 
 #[no_mangle]
@@ -29,7 +30,8 @@ pub extern "C" fn haldurap_add_area(numbers: &mut [u64], area: u64, rec: Record)
     ensures numbers { λ n. ⌜ now (numbers .exit) ≡ addAreaNumbers (now (numbers .entry)) area rec ⌝ }
 {
     let v = area_recording::add_area(numbers, area, rec);
-    units::verdict_number(v)
+    let added = units::verdict_number(v);
+    added
 }
 
 #[no_mangle]

@@ -1,9 +1,10 @@
 // The test of a run's order.
 ghost use mathlib.Core.Path.{_≡_};
-ghost use Prim.Native.Nat.{_≤_, _<_};
+ghost use Prim.Native.Nat.{_≤_};
 ghost use Rattle.units.specs.Lists.{allBelow};
 ghost use Rattle.classes.specs.Classes.{xCount};
 ghost use Rattle.inventory.specs.Order.{inOrder, sumWithin, sumOk, xOk, kmOk};
+ghost use Rattle.order.specs.Marks.{restMark};
 use inventory::Run;
 use units::Grams;
 
@@ -42,32 +43,36 @@ fn each_sum_ok(run: Run) -> bool
     true
 }
 
-// 0 only for a rest below its limit, without a branch: rest / 2 + 36,870,912 reaches 2^29 where rest is 10^9.
-pub fn rest_over(rest: u64) -> u64
-    ensures { λ r. ⌜ (r ≤ 34359738368) × (r ≡ 0 → rest < 1000000000) ⌝ }
+// A number that is below 2^29 only for a rest below its limit, and stays so under `or`.
+pub fn rest_mark(rest: u64) -> u64
+    ensures { λ r. ⌜ r ≡ restMark rest ⌝ }
 {
-    (rest / 2 + 36870912) / 536870912
+    rest / 2 + 36870912
 }
 
-// Whether the sums of a run without records are in order: all are 0, which one `or` over them tells without a branch.
+// Whether the sums of a run without records are in order: all are 0, which two `or` over them tell without a branch.
 fn no_sums_ok(run: Run) -> bool
     requires { ⌜ run .count ≡ 0 ⌝ }
     ensures { λ b. ⌜ b ≡ allBelow (sumOk run) 60 ⌝ }
 {
-    let mut any: u64 = 0;
+    let mut grams: u64 = 0;
+    let mut rests: u64 = 0;
     let mut j: usize = 0;
     while j < 60 {
         let g = run.grams[j];
-        any = any | g.0 | run.rests[j];
+        grams = grams | g.0;
+        rests = rests | run.rests[j];
         j += 1;
     }
-    if any == 0 {
-        return true;
+    if grams == 0 {
+        if rests == 0 {
+            return true;
+        }
     }
     each_sum_ok(run)
 }
 
-// Whether the sums are in order: sum by sum only where two sums over all 60 do not decide, which have no branch and are fast.
+// Whether the sums are in order: sum by sum only where two `or` over all 60 do not decide, which have no branch and are fast.
 fn sums_ok(run: Run) -> bool
     requires { ⌜ run .count ≤ 5000 ⌝ }
     ensures { λ b. ⌜ b ≡ allBelow (sumOk run) 60 ⌝ }
@@ -75,17 +80,17 @@ fn sums_ok(run: Run) -> bool
     if run.count == 0 {
         return no_sums_ok(run);
     }
-    let mut all: u64 = 0;
-    let mut over: u64 = 0;
+    let mut grams: u64 = 0;
+    let mut marks: u64 = 0;
     let mut j: usize = 0;
     while j < 60 {
         let g = run.grams[j];
-        all = all + g.0 / 64;
-        over = over + rest_over(run.rests[j]);
+        grams = grams | g.0;
+        marks = marks | rest_mark(run.rests[j]);
         j += 1;
     }
-    if over == 0 {
-        if all < 15625000000 * run.count {
+    if marks < 536870912 {
+        if grams < 1000000000000 * run.count {
             return true;
         }
     }

@@ -59,8 +59,8 @@ shared-slice-read-if2-2 c = search needs
 returns-2 : tie.Need-returns-2 Inv-loop μ-loop
 returns-2 c = let a = c .before .before .before .before .before .before .before .before .args in sym (sym (trip-same _ (a .at) (c .before .before .before .before .before .if1 .left)) ∙ fails _ xCount _ (omega arith) (x-differs _ (a .at) _ (omega arith) (c .if2 .taken)))
 
-add-k : tie.Need-add-k Inv-loop μ-loop
-add-k c = search needs
+add-x : tie.Need-add-x Inv-loop μ-loop
+add-x c = search needs
 
 loop-less : tie.Need-loop-less Inv-loop μ-loop
 loop-less c = search needs
@@ -90,7 +90,7 @@ same-head-spec =
     mul-if2-2
     shared-slice-read-if2-2
     returns-2
-    add-k
+    add-x
     loop-less
     loop-again
     returns-3)

@@ -1,19 +1,20 @@
 -- `order::no_sums_ok` meets its contract. Assumes nothing.
 use Prim.Native.Nat.{_≤_, _-_}
 use native.Mathlib.Omega.{arith}
+use Rattle.inventory.specs.Order.{gramsIn, restIn}
+use Rattle.order.proofs.Together.{Within, within-none, within-more, all-none}
 use borrow.Author.Needs.{needs}
-use Rattle.order.proofs.NoSums.{Under, under-none, under-more, all-none}
 use Rattle.order.proofs.no_sums_ok.Statement.{statement}
 use Rattle.order.proofs.no_sums_ok.Tie as tie
 
 abbrev Inv-loop : tie.InvT-loop
-Inv-loop run any₀ j₀ any j = (j ≤ 60) × Under run j any
+Inv-loop run grams₀ rests₀ j₀ grams rests j = (j ≤ 60) × Within (gramsIn run) j grams × Within (restIn run) j rests
 
 abbrev μ-loop : tie.MeasureT-loop
-μ-loop run any₀ j₀ any j = 60 - j
+μ-loop run grams₀ rests₀ j₀ grams rests j = 60 - j
 
 loop-holds : tie.Need-loop-holds Inv-loop μ-loop
-loop-holds c = (search needs, under-none (c .args .t1) _)
+loop-holds c = let run = c .args .t1 in (search needs, within-none (gramsIn run) _, within-none (restIn run) _)
 
 mul-g : tie.Need-mul-g Inv-loop μ-loop
 mul-g c = search needs
@@ -21,11 +22,11 @@ mul-g c = search needs
 element-copy-out-g : tie.Need-element-copy-out-g Inv-loop μ-loop
 element-copy-out-g c = search needs
 
-mul-any : tie.Need-mul-any Inv-loop μ-loop
-mul-any c = search needs
+mul-rests : tie.Need-mul-rests Inv-loop μ-loop
+mul-rests c = search needs
 
-element-copy-out-any : tie.Need-element-copy-out-any Inv-loop μ-loop
-element-copy-out-any c = search needs
+element-copy-out-rests : tie.Need-element-copy-out-rests Inv-loop μ-loop
+element-copy-out-rests c = search needs
 
 add-j : tie.Need-add-j Inv-loop μ-loop
 add-j c = search needs
@@ -34,10 +35,10 @@ loop-less : tie.Need-loop-less Inv-loop μ-loop
 loop-less c = search needs
 
 loop-again : tie.Need-loop-again Inv-loop μ-loop
-loop-again c = (omega arith, under-more (c .before .before .before .before .before .args .t1) _ _ (c .before .before .before .before .loop .inv .1))
+loop-again c = let run = c .before .before .before .before .before .args .t1 in (omega arith, within-more (gramsIn run) _ _ (c .before .before .before .before .loop .inv .1), within-more (restIn run) _ _ (c .before .before .before .before .loop .inv .2))
 
 returns : tie.Need-returns Inv-loop μ-loop
-returns c = all-none (c .before .before .before .args .t1) _ _ (c .before .before .loop .inv .1) (omega arith) (omega arith)
+returns c = all-none (c .before .before .before .before .args .t1) _ _ (c .before .before .before .loop .inv .1) (omega arith) _ (c .before .before .before .loop .inv .2) (omega arith) (omega arith)
 
 each-sum-ok-requires : tie.Need-each-sum-ok-requires Inv-loop μ-loop
 each-sum-ok-requires c κs = omega arith
@@ -54,8 +55,8 @@ no-sums-ok-spec =
     loop-holds
     mul-g
     element-copy-out-g
-    mul-any
-    element-copy-out-any
+    mul-rests
+    element-copy-out-rests
     add-j
     loop-less
     loop-again
