@@ -55,7 +55,7 @@ FIELD = re.compile(r"^ +(?:pub )?([^\s:(){}=]+) : ")
 
 
 # Records that claims are made of.
-PARTS = ("EveryList", "SameReport", "KindsNear", "StatedForm", "ListGives", "WithinDistance")
+PARTS = ("EveryList", "EveryAreasList", "AreasAfter", "SameReport", "KindsNear", "StatedForm", "ListGives", "WithinDistance")
 
 
 class Names:

@@ -31,7 +31,7 @@ use Rattle.areas.proofs.Numbers.{Shaped, shaped-at, run-back}
 use Rattle.areas.proofs.Order.{head-self, run-ok, order-areas, areas-ok, numbers-order}
 use Rattle.areas.proofs.Adding.{run-given}
 use Rattle.area_claims.specs.References.{AreaAdd, acceptsIn, entersArea, countsIn, referencesOf, countsWith, acceptedInFrom, acceptedIn}
-use Rattle.area_claims.specs.Claim.{numbersAfter, AreasListClaim, SameAcceptedIn, EveryAreasList, AreasClaim}
+use Rattle.area_claims.specs.Claim.{numbersAfter, AreasAfter, SameAcceptedIn, EveryAreasList, AreasClaim}
 use Rattle.area_claims.proofs.OneAdd.{asks-number, add-number, below-own, takes-in, accepts-low, accepts-own, accepts-few, accepts-alike, number-alike}
 use Rattle.area_claims.proofs.Kept.{here, there, count-next, shaped-next, order-next}
 use Rattle.area_claims.proofs.References.{room-own, entered, passed-by, references-are, all-accepted}
@@ -233,7 +233,7 @@ module _ (head : Head) (taken : openNumber head ≡ 0) where
     counted-last : Counted last (countsIn (referencesOf head adds))
     counted-last j h = ap (λ r. r .count) (run-given last j (after-adds .ordered) (omega arith) .1) ∙ each j h .count
 
-    listed : AreasListClaim head adds last (referencesOf head adds)
+    listed : AreasAfter head adds last (referencesOf head adds)
     listed =
         record {
           takes = λ add. takes-in last (after-adds .ordered) add ∙ accepts-alike (countsOf (areasOf last)) (countsIn (referencesOf head adds)) counted-last add;

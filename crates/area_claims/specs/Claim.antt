@@ -24,7 +24,7 @@ numbersAfter numbers [] = numbers
 numbersAfter numbers (add ∷ adds) = numbersAfter (addAreaNumbers numbers (add .area) (add .rec)) adds
 
 -- what holds of the numbers after a list of adds under a head, given the sixteen references after it
-pub record AreasListClaim (head : Head) (adds : List AreaAdd) (numbers : List ℕ) (references : ℕ → Reference) : Type 0 where
+pub record AreasAfter (head : Head) (adds : List AreaAdd) (numbers : List ℕ) (references : ℕ → Reference) : Type 0 where
   -- the next add takes its record exactly where the references accept it
   pub takes : (add : AreaAdd) → eqb (addAreaNumber numbers (add .area) (add .rec)) 0 ≡ acceptsIn (countsIn references) add
   -- its number is 17, the first of 3 to 8 that fits the record, then 18 by the counts of all sixteen references
@@ -44,7 +44,7 @@ SameAcceptedIn i adds others = (rec : Record) → occurs rec (acceptedIn i adds)
 
 -- the part about every list of adds to freshly opened areas
 pub record EveryAreasList (head : Head) (opened : List ℕ) : Type 0 where
-  pub list : (adds : List AreaAdd) → AreasListClaim head adds (numbersAfter opened adds) (referencesOf head adds)
+  pub list : (adds : List AreaAdd) → AreasAfter head adds (numbersAfter opened adds) (referencesOf head adds)
   pub order : (adds others : List AreaAdd) (i : ℕ) → i < 16 → SameAcceptedIn i adds others
       → SameReport (areaRun (numbersAfter opened adds) i) (areaRun (numbersAfter opened others) i)
 

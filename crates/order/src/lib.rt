@@ -57,12 +57,12 @@ fn no_sums_ok(run: Run) -> bool
 {
     let mut grams: u64 = 0;
     let mut rests: u64 = 0;
-    let mut j: usize = 0;
-    while j < 60 {
-        let g = run.grams[j];
+    let mut i: usize = 0;
+    while i < 60 {
+        let g = run.grams[i];
         grams = grams | g.0;
-        rests = rests | run.rests[j];
-        j += 1;
+        rests = rests | run.rests[i];
+        i += 1;
     }
     if grams == 0 {
         if rests == 0 {

@@ -8,10 +8,10 @@ use Rattle.order.proofs.no_sums_ok.Statement.{statement}
 use Rattle.order.proofs.no_sums_ok.Tie as tie
 
 abbrev Inv-loop : tie.InvT-loop
-Inv-loop run grams₀ rests₀ j₀ grams rests j = (j ≤ 60) × Within (gramsIn run) j grams × Within (restIn run) j rests
+Inv-loop run grams₀ rests₀ i₀ grams rests i = (i ≤ 60) × Within (gramsIn run) i grams × Within (restIn run) i rests
 
 abbrev μ-loop : tie.MeasureT-loop
-μ-loop run grams₀ rests₀ j₀ grams rests j = 60 - j
+μ-loop run grams₀ rests₀ i₀ grams rests i = 60 - i
 
 loop-holds : tie.Need-loop-holds Inv-loop μ-loop
 loop-holds c = let run = c .args .t1 in (search needs, within-none (gramsIn run) _, within-none (restIn run) _)
@@ -28,8 +28,8 @@ mul-rests c = search needs
 element-copy-out-rests : tie.Need-element-copy-out-rests Inv-loop μ-loop
 element-copy-out-rests c = search needs
 
-add-j : tie.Need-add-j Inv-loop μ-loop
-add-j c = search needs
+add-i : tie.Need-add-i Inv-loop μ-loop
+add-i c = search needs
 
 loop-less : tie.Need-loop-less Inv-loop μ-loop
 loop-less c = search needs
@@ -57,7 +57,7 @@ no-sums-ok-spec =
     element-copy-out-g
     mul-rests
     element-copy-out-rests
-    add-j
+    add-i
     loop-less
     loop-again
     returns
