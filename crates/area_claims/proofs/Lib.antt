@@ -2,3 +2,4 @@ pub mod OneAdd
 pub mod Kept
 pub mod References
 pub mod Lists
+pub mod Worked

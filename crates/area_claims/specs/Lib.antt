@@ -1,3 +1,4 @@
 pub mod Conditions
 pub mod References
 pub mod Claim
+pub mod Worked

@@ -11,7 +11,7 @@ use Rattle.units.specs.Lists.{tab}
 use Rattle.classes.specs.Classes.{xCount}
 use Rattle.inventory.specs.declared.Run.{Run}
 use Rattle.inventory.specs.Order.{gramsIn, restIn, kmIn}
-use Rattle.areas.specs.Areas.{Areas}
+use Rattle.areas.specs.Areas.{Areas, areaCount}
 
 -- the number i places behind a place; as kilometres; as grams
 abbrev pub numberAt : List ℕ → ℕ → ℕ → ℕ
@@ -23,15 +23,15 @@ kmAt numbers at i = record { 0 = numberAt numbers at i }
 abbrev pub gramsAt : List ℕ → ℕ → ℕ → Grams
 gramsAt numbers at i = record { 0 = numberAt numbers at i }
 
--- the numbers of one run, where the common use stands, and the numbers of areas
+-- how many numbers one run has, where the common use stands, and how many areas have
 abbrev pub runSize : ℕ
 runSize = 141
 
 abbrev pub commonPlace : ℕ
-commonPlace = 2256
+commonPlace = areaCount * runSize
 
 abbrev pub areasSize : ℕ
-areasSize = 2257
+areasSize = commonPlace + 1
 
 -- the run at a place: L, 16 values X, the count, the kilometres of 3 fuels, 60 times whole grams, 60 rests
 unfoldable pub runAt : List ℕ → ℕ → Run
