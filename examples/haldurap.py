@@ -159,11 +159,14 @@ class _Numbers(Structure):
 
     def __setattr__(self, name, value):
         kind = dict(self._fields_).get(name)
+        if kind is None:
+            fields = ", ".join(field for field, _ in self._fields_)
+            raise AttributeError("%s has no field %s; its fields are %s" % (type(self).__name__, name, fields))
         if kind in (c_uint64, c_int64):
             value = _whole(name, value, kind is c_int64)
-        elif kind is not None and issubclass(kind, _Array):
+        elif issubclass(kind, _Array):
             value = kind(*_several(name, value, kind._length_, kind.wanted, kind._type_))
-        elif kind is not None and not isinstance(value, kind):
+        elif not isinstance(value, kind):
             value = kind(*_several(name, value, 3, "three (urban, rural, highway)"))
         super().__setattr__(name, value)
 
@@ -361,7 +364,7 @@ def in_order(run):
 
 
 def open_areas(a_head):
-    """Sixteen fresh areas under a head, as an Areas. While one thread adds to it, no other may use it. Refuses 1, 2."""
+    """Sixteen fresh areas under a head, as an Areas. While one thread adds to them, no other may use them. Refuses 1, 2."""
     areas = Areas()
     _taken(_call("open_areas")(areas, AREAS_NUMBERS, _of("a_head", a_head, Head)))
     return areas

@@ -14,7 +14,7 @@
      haldurap_add_area change the lent areas, in place. A new run comes back in the answer.
    - Nothing is allocated, nothing static is written, so calls from many threads need no lock. Only
      what a call changes must not be used by another thread meanwhile: one haldurap_areas needs a
-     lock where a thread adds to it, different ones need none.
+     lock where a thread opens it or adds to it, different ones need none.
    - A call uses less than 16 KB of stack, the arguments included. What is lent to it is the
      caller's, and is not counted.
    - Every answer begins with a number: 0 if the call did what was asked, else the ground of the
@@ -180,7 +180,7 @@ typedef struct haldurap_run {
    Areas that are not in order give 16 from haldurap_add_area and haldurap_area_run. They are in order if
        runs        each is in order (see haldurap_run), and all have the same trip and the same 16 x
        common      0 to 200, and it is the sum over the areas of what count has beyond 300
-   What 16 cannot see in a run it cannot see here. */
+   What 16 cannot see in a run it cannot see here, nor that two areas' runs were exchanged. */
 typedef struct haldurap_areas {
     haldurap_run runs[16];      /*     0  the run of each area, from area 0 */
     uint64_t common;            /* 18048  records beyond 300, summed over the areas */

@@ -32,14 +32,14 @@ def same(found, wanted, what):
 
 
 def outcome(function, *arguments):
-    """What a call gives, or the refusal's number and line, or the text of its ValueError."""
+    """What a call gives, or the refusal's number and line, or the text of its ValueError or AttributeError."""
     try:
         return function(*arguments)
     except h.Refused as refused:
         same(str(refused).startswith("refused with %d" % refused.number) and h.MEANINGS[refused.number] in str(refused), True, "text of %r" % refused)
         return "refused", refused.number, refused.line
-    except ValueError as error:
-        return "ValueError: %s" % error
+    except (ValueError, AttributeError) as error:
+        return "%s: %s" % (type(error).__name__, error)
 
 
 def refused(number, line=None):
@@ -455,6 +455,9 @@ def wrong_arguments():
         for call in (lambda: setattr(lent, "runs", [run] * 15 + [value]), lambda: lent.runs.__setitem__(3, value),
                      lambda: lent.runs.__setitem__(slice(0, 2), [run, value])):
             same(outcome(call), error("runs", "a Run is wanted, %r given" % (value,)), "a run set to %r" % (value,))
+    for value, fields in ((lent, "runs, common"), (h.Run(), "trip, x, count, km, grams, rests"), (h.Head(120, [100] * 12), "trip, temps")):
+        name = type(value).__name__
+        same(outcome(setattr, value, "comon", 3), "AttributeError: %s has no field comon; its fields are %s" % (name, fields), "a misspelt field of %s" % name)
     same(bytes(lent) == whole, True, "areas after refused changes")
     same(h.add_area(lent, Index(3), part).runs[3].count, 1, "an area's number of another type")
     # the rest

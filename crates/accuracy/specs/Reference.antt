@@ -14,7 +14,7 @@ use Rattle.inventory.specs.Records.{recordGrounds, vehicleKm, shareOf}
 use Rattle.inventory.specs.Order.{recordLimit}
 use Rattle.inventory.specs.Adding.{factorOf}
 
--- acceptable: no number but 9 and 16 fits the record's add
+-- acceptable: no number 3 to 8 fits the record, so none but 9 and 16 its add, in an area none but 18 and 16
 unfoldable pub acceptable : Record → Bool
 acceptable rec = eqb (firstFit (recordGrounds rec)) 0
 

@@ -28,7 +28,7 @@ use Rattle.areas.specs.Areas.{Areas, countsOf, beyondOwn, commonUse, areaOk, ar
 use Rattle.areas.specs.Numbers.{areasOf, numbersOf}
 use Rattle.areas.specs.Calls.{sizeOk, numbersInOrder, openAreasNumber, openAreasNumbers, addAreaNumbers, areaRun}
 use Rattle.areas.proofs.Numbers.{Shaped, shaped-at, run-back}
-use Rattle.areas.proofs.Order.{head-self, run-ok, order-areas, areas-ok, numbers-order}
+use Rattle.areas.proofs.Order.{head-self, run-ok, records-most, order-areas, areas-ok, numbers-order}
 use Rattle.areas.proofs.Adding.{run-given}
 use Rattle.area_claims.specs.References.{AreaAdd, acceptsIn, entersArea, countsIn, referencesOf, countsWith, acceptedInFrom, acceptedIn}
 use Rattle.area_claims.specs.Claim.{numbersAfter, AreasAfter, SameAcceptedIn, EveryAreasList, AreasClaim}
@@ -271,5 +271,8 @@ areas-claim =
     record {
       opening = opening;
       lists = every-list;
+      kept = λ numbers adds o. after-list adds numbers (countsOf (areasOf numbers)) o (λ j h. refl) .ordered;
+      shared = λ numbers o. records-most (areasOf numbers) (areas-ok numbers o);
+      room = λ numbers add o. add-number numbers o (add .area) (add .rec);
       never-starved = λ numbers area rec o low few own. below-own numbers o area rec low few own;
     }

@@ -20,33 +20,33 @@ use Rattle.areas.specs.Numbers.{areasOf}
 use Rattle.areas.specs.Calls.{numbersInOrder, addAreaNumber, areaRunNumber}
 use Rattle.areas.proofs.Order.{areas-ok, common-is}
 use Rattle.areas.proofs.Adding.{area-turn, area-taken, add-no-area, add-in-turn, run-no-area, run-given}
-use Rattle.area_claims.specs.Conditions.{areaOut, commonRecords, roomOut, areaRecordNumber}
+use Rattle.area_claims.specs.Conditions.{noArea, commonRecords, fullArea, areaRecordNumber}
 use Rattle.area_claims.specs.References.{AreaAdd, acceptsIn}
 
 -- ---- on numbers in order
 
 module _ (numbers : List ℕ) (o : numbersInOrder numbers ≡ true) where
   -- the common use is told from the counts
-  full-is : (area : ℕ) → areaFull (countsOf (areasOf numbers) area) (areasOf numbers .common) ≡ roomOut (countsOf (areasOf numbers)) area
-  unfolding roomOut commonRecords commonUse
+  full-is : (area : ℕ) → areaFull (countsOf (areasOf numbers) area) (areasOf numbers .common) ≡ fullArea (countsOf (areasOf numbers)) area
+  unfolding fullArea commonRecords commonUse
   full-is area = ap (λ n. areaFull (countsOf (areasOf numbers) area) n) (common-is (areasOf numbers) (areas-ok numbers o))
 
-  pub asks-number : (area : ℕ) → areaRunNumber numbers area ≡ cond (areaOut area) 17 0
-  unfolding areaOut
+  pub asks-number : (area : ℕ) → areaRunNumber numbers area ≡ cond (noArea area) 17 0
+  unfolding noArea
   asks-number area =
       ⊎-elim (λ (l : area ≤ 15). sym (run-given numbers area o l .0) ∙ rw (le-ltb 15 area l))
       (λ (l : 15 < area). sym (run-no-area numbers area o l .0) ∙ rw (lt-ltb 15 area l)) (le-or-lt area 15)
 
   module _ (area : ℕ) (rec : Record) where
     within-number : area ≤ 15 → addAreaNumber numbers area rec ≡ areaRecordNumber (countsOf (areasOf numbers)) area rec
-    unfolding areaGrounds areaRecordNumber areaOut
+    unfolding areaGrounds areaRecordNumber noArea
     within-number l =
         sym (add-in-turn numbers area rec o l)
         ∙ record-else rec 18 (areaFull (countsOf (areasOf numbers) area) (areasOf numbers .common))
         ∙ rw (le-ltb 15 area l, full-is area)
 
     above-number : 15 < area → addAreaNumber numbers area rec ≡ areaRecordNumber (countsOf (areasOf numbers)) area rec
-    unfolding areaRecordNumber areaOut
+    unfolding areaRecordNumber noArea
     above-number l = sym (add-no-area numbers area rec o l) ∙ rw (lt-ltb 15 area l)
 
     pub add-number : addAreaNumber numbers area rec ≡ areaRecordNumber (countsOf (areasOf numbers)) area rec
@@ -62,14 +62,14 @@ module _ (numbers : List ℕ) (o : numbersInOrder numbers ≡ true) where
 
   module _ (add : AreaAdd) where
     within-takes : add .area ≤ 15 → eqb (addAreaNumber numbers (add .area) (add .rec)) 0 ≡ acceptsIn (countsOf (areasOf numbers)) add
-    unfolding acceptsIn areaOut accepts acceptable
+    unfolding acceptsIn noArea accepts acceptable
     within-takes l =
         ap (λ n. eqb n 0) (sym (add-in-turn numbers (add .area) (add .rec) o l))
         ∙ area-taken (countsOf (areasOf numbers) (add .area)) (areasOf numbers .common) (add .rec)
         ∙ rw (le-ltb 15 (add .area) l, full-is (add .area))
 
     above-takes : 15 < add .area → eqb (addAreaNumber numbers (add .area) (add .rec)) 0 ≡ acceptsIn (countsOf (areasOf numbers)) add
-    unfolding acceptsIn areaOut
+    unfolding acceptsIn noArea
     above-takes l = ap (λ n. eqb n 0) (sym (add-no-area numbers (add .area) (add .rec) o l)) ∙ rw (lt-ltb 15 (add .area) l)
 
     -- the add takes exactly what the counts accept
@@ -80,22 +80,22 @@ module _ (numbers : List ℕ) (o : numbersInOrder numbers ≡ true) where
 
 module _ (counts : ℕ → ℕ) (add : AreaAdd) (t : acceptsIn counts add ≡ true) where
   pub accepts-low : add .area < 16
-  unfolding acceptsIn areaOut
+  unfolding acceptsIn noArea
   accepts-low =
-      let z = not-true (ltb 15 (add .area)) (and-left (not (ltb 15 (add .area))) (accepts (not (roomOut counts (add .area))) (add .rec)) t) in
+      let z = not-true (ltb 15 (add .area)) (and-left (not (ltb 15 (add .area))) (accepts (not (fullArea counts (add .area))) (add .rec)) t) in
       omega (arith, ltb-false 15 (add .area) z)
 
-  both : accepts (not (roomOut counts (add .area))) (add .rec) ≡ true
+  both : accepts (not (fullArea counts (add .area))) (add .rec) ≡ true
   unfolding acceptsIn
-  both = and-right (not (areaOut (add .area))) (accepts (not (roomOut counts (add .area))) (add .rec)) t
+  both = and-right (not (noArea (add .area))) (accepts (not (fullArea counts (add .area))) (add .rec)) t
 
   pub accepts-own : acceptable (add .rec) ≡ true
   unfolding accepts
-  accepts-own = and-left (acceptable (add .rec)) (not (roomOut counts (add .area))) both
+  accepts-own = and-left (acceptable (add .rec)) (not (fullArea counts (add .area))) both
 
-  room : roomOut counts (add .area) ≡ false
+  room : fullArea counts (add .area) ≡ false
   unfolding accepts
-  room = not-true (roomOut counts (add .area)) (and-right (acceptable (add .rec)) (not (roomOut counts (add .area))) both)
+  room = not-true (fullArea counts (add .area)) (and-right (acceptable (add .rec)) (not (fullArea counts (add .area))) both)
 
   free-by : (p q : Bool) → leb 300 (counts (add .area)) ≡ p → leb 200 (commonUse counts) ≡ q → (p && q) ≡ false → 300 ≤ counts (add .area) → commonUse counts < 200
   free-by true true e g h l = absurd (never h)
@@ -104,7 +104,7 @@ module _ (counts : ℕ → ℕ) (add : AreaAdd) (t : acceptsIn counts add ≡ tr
 
   -- with 300 or more there is room among the common 200
   pub accepts-free : 300 ≤ counts (add .area) → commonUse counts < 200
-  unfolding roomOut commonRecords commonUse
+  unfolding fullArea commonRecords commonUse
   accepts-free = free-by _ _ refl refl room
 
   pub accepts-few : counts (add .area) < 500
@@ -116,15 +116,15 @@ module _ (counts : ℕ → ℕ) (add : AreaAdd) (t : acceptsIn counts add ≡ tr
 -- ---- the counts of the sixteen areas alone decide
 
 module _ (f g : ℕ → ℕ) (h : (j : ℕ) → j < 16 → f j ≡ g j) where
-  room-alike : (area : ℕ) → area ≤ 15 → roomOut f area ≡ roomOut g area
-  unfolding roomOut commonRecords
+  room-alike : (area : ℕ) → area ≤ 15 → fullArea f area ≡ fullArea g area
+  unfolding fullArea commonRecords
   room-alike area l = rw (h area (omega arith), sum-alike (λ i. f i - 300) (λ i. g i - 300) 16 (λ j b. ap (λ n. n - 300) (h j b)))
 
   pub accepts-alike : (add : AreaAdd) → acceptsIn f add ≡ acceptsIn g add
-  unfolding acceptsIn areaOut
+  unfolding acceptsIn noArea
   accepts-alike add =
       ⊎-elim (λ (l : add .area ≤ 15). rw (room-alike (add .area) l)) (λ (l : 15 < add .area). rw (lt-ltb 15 (add .area) l)) (le-or-lt (add .area) 15)
 
   pub number-alike : (area : ℕ) (rec : Record) → areaRecordNumber f area rec ≡ areaRecordNumber g area rec
-  unfolding areaRecordNumber areaOut
+  unfolding areaRecordNumber noArea
   number-alike area rec = ⊎-elim (λ (l : area ≤ 15). rw (room-alike area l)) (λ (l : 15 < area). rw (lt-ltb 15 area l)) (le-or-lt area 15)

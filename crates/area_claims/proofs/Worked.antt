@@ -19,22 +19,22 @@ use Rattle.accuracy.specs.Reference.{acceptable, accepts}
 use Rattle.accuracy.specs.Claim.{runAfter}
 use Rattle.accuracy.specs.Numbers.{exampleHead, exampleOf}
 use Rattle.areas.specs.Calls.{openAreasNumber, openAreasNumbers, areaRun}
-use Rattle.area_claims.specs.Conditions.{areaOut, commonRecords, roomOut}
+use Rattle.area_claims.specs.Conditions.{noArea, commonRecords, fullArea}
 use Rattle.area_claims.specs.References.{acceptsIn, entersArea, countsWith, acceptedInFrom, acceptedIn}
 use Rattle.area_claims.specs.Claim.{numbersAfter}
 use Rattle.area_claims.specs.Worked.{exampleAdds, exampleCo, allBut, AreasWorkedClaim}
 use Rattle.area_claims.proofs.Lists.{areas-claim}
 
 accepted-3 : acceptedIn 3 exampleAdds ≡ exampleOf 2 ∷ exampleOf 2 ∷ []
-unfolding acceptedIn acceptedInFrom entersArea acceptsIn countsWith areaOut roomOut commonRecords sumTo accepts acceptable firstFit recordGrounds outside vehicleKm sharesWrong speedsWrong
+unfolding acceptedIn acceptedInFrom entersArea acceptsIn countsWith noArea fullArea commonRecords sumTo accepts acceptable firstFit recordGrounds outside vehicleKm sharesWrong speedsWrong
 accepted-3 = refl
 
 accepted-5 : acceptedIn 5 exampleAdds ≡ exampleOf 6 ∷ []
-unfolding acceptedIn acceptedInFrom entersArea acceptsIn countsWith areaOut roomOut commonRecords sumTo accepts acceptable firstFit recordGrounds outside vehicleKm sharesWrong speedsWrong
+unfolding acceptedIn acceptedInFrom entersArea acceptsIn countsWith noArea fullArea commonRecords sumTo accepts acceptable firstFit recordGrounds outside vehicleKm sharesWrong speedsWrong
 accepted-5 = refl
 
 accepted-other : acceptedIn 0 exampleAdds ≡ []
-unfolding acceptedIn acceptedInFrom entersArea acceptsIn countsWith areaOut roomOut commonRecords sumTo accepts acceptable firstFit recordGrounds outside vehicleKm sharesWrong speedsWrong
+unfolding acceptedIn acceptedInFrom entersArea acceptsIn countsWith noArea fullArea commonRecords sumTo accepts acceptable firstFit recordGrounds outside vehicleKm sharesWrong speedsWrong
 accepted-other = refl
 
 co-class-2 : totalOf (runAfter (openRun exampleHead) (exampleOf 2 ∷ exampleOf 2 ∷ [])) 1 1 .grams ≡ 54264364
@@ -60,7 +60,7 @@ module _ (numbers : List ℕ) (taken : openAreasNumber numbers exampleHead ≡ 0
       ∙ co-class-6
 
 pub worked : AreasWorkedClaim
-unfolding roomOut commonRecords sumTo
+unfolding fullArea commonRecords sumTo
 worked =
     record {
       accepted-3 = accepted-3;

@@ -1,11 +1,12 @@
 -- SPECIFICATION, "Areas" (document 02, job 3), as statements over the functions on the right of ≡ in the calls' contracts.
 -- Assumes nothing.
-use Prim.Native.Nat.{ℕ, _<_}
+use Prim.Native.Nat.{ℕ, _≤_, _<_}
 use mathlib.Core.Path.{_≡_}
 use mathlib.Core.Bool.{true, not, cond}
 use mathlib.Core.List.{List, [], _∷_}
 use lib.Dec.{eqb}
 use lib.ListN.{length}
+use Rattle.units.specs.Lists.{sumTo}
 use Rattle.inventory.specs.declared.Head.{Head}
 use Rattle.inventory.specs.declared.Record.{Record}
 use Rattle.inventory.specs.Opening.{openRun}
@@ -15,7 +16,7 @@ use Rattle.areas.specs.Calls.{numbersInOrder, openAreasNumber, openAreasNumbers
 use Rattle.accuracy.specs.Conditions.{tripOut, temperatureOut}
 use Rattle.accuracy.specs.Reference.{Reference, acceptable, occurs}
 use Rattle.accuracy.specs.Claim.{runAfter, ListClaim, SameReport}
-use Rattle.area_claims.specs.Conditions.{areaOut, areaRecordNumber}
+use Rattle.area_claims.specs.Conditions.{noArea, areaRecordNumber}
 use Rattle.area_claims.specs.References.{AreaAdd, acceptsIn, countsIn, referencesOf, acceptedIn}
 
 -- the numbers after a list of adds, each on the numbers that the one before it left, refused or not
@@ -32,7 +33,7 @@ pub record AreasAfter (head : Head) (adds : List AreaAdd) (numbers : List ℕ) (
   -- 16 fits no such numbers
   pub ordered : numbersInOrder numbers ≡ true
   -- the run of an area is refused exactly where 17 fits
-  pub runs-number : (area : ℕ) → areaRunNumber numbers area ≡ cond (areaOut area) 17 0
+  pub runs-number : (area : ℕ) → areaRunNumber numbers area ≡ cond (noArea area) 17 0
   -- the run of an area is the single run of its accepted records
   pub run : (i : ℕ) → i < 16 → areaRun numbers i ≡ runAfter (openRun head) (acceptedIn i adds)
   -- so all that is claimed of single runs holds of it, with the area's own reference: count, kilometres, distance
@@ -54,6 +55,13 @@ pub record AreasClaim : Type 0 where
       → openAreasNumber numbers head ≡ cond (not (eqb (length numbers) 2257)) 16 (cond (tripOut (head .trip)) 1 (cond (temperatureOut (head .temps)) 2 0))
   -- every list of adds to areas that opening took, under every head
   pub lists : (numbers : List ℕ) (head : Head) → openAreasNumber numbers head ≡ 0 → EveryAreasList head (openAreasNumbers numbers head)
+  -- any areas in order stay so, whatever is added
+  pub kept : (numbers : List ℕ) (adds : List AreaAdd) → numbersInOrder numbers ≡ true → numbersInOrder (numbersAfter numbers adds) ≡ true
+  -- they have at most 5,000 records
+  pub shared : (numbers : List ℕ) → numbersInOrder numbers ≡ true → sumTo (countsOf (areasOf numbers)) 16 ≤ 5000
+  -- whose next add has the number that the counts of all sixteen give: 17, 3 to 8, 18, and never 16
+  pub room : (numbers : List ℕ) (add : AreaAdd) → numbersInOrder numbers ≡ true
+      → addAreaNumber numbers (add .area) (add .rec) ≡ areaRecordNumber (countsOf (areasOf numbers)) (add .area) (add .rec)
   -- never starved: in any areas in order, an area below 300 takes every record that no number 3 to 8 fits, whatever the others hold
   pub never-starved : (numbers : List ℕ) (area : ℕ) (rec : Record) → numbersInOrder numbers ≡ true → area < 16 → countsOf (areasOf numbers) area < 300
       → acceptable rec ≡ true → addAreaNumber numbers area rec ≡ 0

@@ -9,17 +9,17 @@ use Rattle.inventory.specs.declared.Record.{Record}
 use Rattle.accuracy.specs.Conditions.{recordElse}
 
 -- 17: area above 15
-unfoldable pub areaOut : ℕ → Bool
-areaOut area = ltb 15 area
+unfoldable pub noArea : ℕ → Bool
+noArea area = ltb 15 area
 
--- the records beyond 300 of sixteen counts
+-- the records beyond 300 of sixteen counts, 0 of one below
 unfoldable pub commonRecords : (ℕ → ℕ) → ℕ
 commonRecords counts = sumTo (λ i. counts i - 300) 16
 
 -- 18: the area has 300 or more and the common 200 are used, told from the counts of all sixteen
-unfoldable pub roomOut : (ℕ → ℕ) → ℕ → Bool
-roomOut counts area = leb 300 (counts area) && leb 200 (commonRecords counts)
+unfoldable pub fullArea : (ℕ → ℕ) → ℕ → Bool
+fullArea counts area = leb 300 (counts area) && leb 200 (commonRecords counts)
 
 -- the number of adding a record to an area where so many were taken in each: 17, the first of 3 to 8 that fits, then 18, else 0
 unfoldable pub areaRecordNumber : (ℕ → ℕ) → ℕ → Record → ℕ
-areaRecordNumber counts area rec = cond (areaOut area) 17 (recordElse (cond (roomOut counts area) 18 0) rec)
+areaRecordNumber counts area rec = cond (noArea area) 17 (recordElse (cond (fullArea counts area) 18 0) rec)

@@ -8,7 +8,7 @@ use lib.Dec.{eqb}
 use Rattle.inventory.specs.declared.Head.{Head}
 use Rattle.inventory.specs.declared.Record.{Record}
 use Rattle.accuracy.specs.Reference.{Reference, empty, accepts, withRecord}
-use Rattle.area_claims.specs.Conditions.{areaOut, roomOut}
+use Rattle.area_claims.specs.Conditions.{noArea, fullArea}
 
 -- an add of a list: the area asked for, which may be above 15, and the record
 pub record AreaAdd : Type 0 where
@@ -17,7 +17,7 @@ pub record AreaAdd : Type 0 where
 
 -- accepted where so many were accepted in each area before: there is such an area, the record is acceptable, and 18 does not fit
 unfoldable pub acceptsIn : (ℕ → ℕ) → AreaAdd → Bool
-acceptsIn counts add = not (areaOut (add .area)) && accepts (not (roomOut counts (add .area))) (add .rec)
+acceptsIn counts add = not (noArea (add .area)) && accepts (not (fullArea counts (add .area))) (add .rec)
 
 -- accepted, and the area i is the one asked for
 unfoldable pub entersArea : (ℕ → ℕ) → AreaAdd → ℕ → Bool
@@ -38,7 +38,7 @@ referencesFrom head ts (add ∷ adds) = referencesFrom head (fedAreas head ts ad
 unfoldable pub referencesOf : Head → List AreaAdd → ℕ → Reference
 referencesOf head adds = referencesFrom head (λ i. empty) adds
 
--- the counts with one add more
+-- the counts of the references after one add more, told without their sums
 unfoldable pub countsWith : (ℕ → ℕ) → AreaAdd → ℕ → ℕ
 countsWith counts add i = cond (entersArea counts add i) (counts i + 1) (counts i)
 

@@ -8,7 +8,7 @@ use lib.Dec.{eqb}
 use Rattle.inventory.specs.Printed.{totalOf}
 use Rattle.accuracy.specs.Numbers.{exampleHead, exampleOf}
 use Rattle.areas.specs.Calls.{openAreasNumber, openAreasNumbers, areaRun}
-use Rattle.area_claims.specs.Conditions.{roomOut}
+use Rattle.area_claims.specs.Conditions.{fullArea}
 use Rattle.area_claims.specs.References.{AreaAdd, acceptedIn}
 use Rattle.area_claims.specs.Claim.{numbersAfter}
 
@@ -35,12 +35,12 @@ pub record AreasWorkedClaim : Type 0 where
   pub co-3 : (numbers : List ℕ) → openAreasNumber numbers exampleHead ≡ 0 → exampleCo numbers 3 1 ≡ 54264364
   pub co-5 : (numbers : List ℕ) → openAreasNumber numbers exampleHead ≡ 0 → exampleCo numbers 5 2 ≡ 14646798
   -- sixteen areas at 300: each still has the common 200
-  pub all-at-300 : roomOut (λ i. 300) 9 ≡ false
+  pub all-at-300 : fullArea (λ i. 300) 9 ≡ false
   -- one area has used 199 of them, and then all: it and every other is full
-  pub one-at-499 : roomOut (allBut 300 9 499) 9 ≡ false
-  pub one-at-500 : roomOut (allBut 300 9 500) 9 ≡ true
-  pub others-at-300 : roomOut (allBut 300 9 500) 2 ≡ true
+  pub one-at-499 : fullArea (allBut 300 9 499) 9 ≡ false
+  pub one-at-500 : fullArea (allBut 300 9 500) 9 ≡ true
+  pub others-at-300 : fullArea (allBut 300 9 500) 2 ≡ true
   -- all are used, twelve or thirteen by each area
-  pub used-by-all : roomOut (λ i. cond (eqb (i / 8) 0) 312 313) 15 ≡ true
+  pub used-by-all : fullArea (λ i. cond (eqb (i / 8) 0) 312 313) 15 ≡ true
   -- all are used by another area: 299 of its own leave room for one more
-  pub own-at-299 : roomOut (λ i. cond (eqb i 9) 500 (cond (eqb i 2) 299 300)) 2 ≡ false
+  pub own-at-299 : fullArea (λ i. cond (eqb i 9) 500 (cond (eqb i 2) 299 300)) 2 ≡ false

@@ -8,7 +8,7 @@ use inventory::Record;
 use units::Refusal;
 use units::Verdict;
 
-// Whether a record is refused in an area with so many records, of areas in order: 3 to 8, then 18.
+// Whether a record is refused in an area with so many records, at this common use: 3 to 8, then 18.
 pub fn area_verdict(count: u64, common: u64, rec: Record) -> Verdict
     ensures { λ v. ⌜ verdictNumber v ≡ firstFit (areaGrounds count common rec) ⌝ }
 {

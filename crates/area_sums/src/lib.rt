@@ -24,23 +24,24 @@ fn each_sum_ok(numbers: &[u64], at: usize, count: u64) -> bool
     true
 }
 
-// Of a run without records: all are 0, which two `or` over them tell without a branch.
+// Of a run without records: all are 0, which two `or` over them tell without a branch; else the test
+// sum by sum says no.
 fn no_sums_ok(numbers: &[u64], at: usize) -> bool
     requires { ⌜ at + 141 ≤ length (now numbers) ⌝ }
     requires { ⌜ runAt (now numbers) at .count ≡ 0 ⌝ }
     ensures { λ b. ⌜ b ≡ allBelow (sumOk (runAt (now (numbers .entry)) at)) 60 ⌝ }
 {
-    let mut grams: u64 = 0;
-    let mut rests: u64 = 0;
+    let mut gram_bits: u64 = 0;
+    let mut rest_bits: u64 = 0;
     let mut j: usize = 0;
     while j < 60 {
         let g = Grams(numbers[at + 21 + j]);
-        grams = grams | g.0;
-        rests = rests | numbers[at + 81 + j];
+        gram_bits = gram_bits | g.0;
+        rest_bits = rest_bits | numbers[at + 81 + j];
         j += 1;
     }
-    if grams == 0 {
-        if rests == 0 {
+    if gram_bits == 0 {
+        if rest_bits == 0 {
             return true;
         }
     }
@@ -53,17 +54,18 @@ fn some_sums_ok(numbers: &[u64], at: usize, count: u64) -> bool
     requires { ⌜ (count ≡ runAt (now numbers) at .count) × (count ≤ 5000) ⌝ }
     ensures { λ b. ⌜ b ≡ allBelow (sumOk (runAt (now (numbers .entry)) at)) 60 ⌝ }
 {
-    let mut grams: u64 = 0;
+    let mut gram_bits: u64 = 0;
     let mut marks: u64 = 0;
     let mut j: usize = 0;
     while j < 60 {
         let g = Grams(numbers[at + 21 + j]);
-        grams = grams | g.0;
+        gram_bits = gram_bits | g.0;
         marks = marks | order::rest_mark(numbers[at + 81 + j]);
         j += 1;
     }
     if marks < 536870912 {
-        if grams < 1000000000000 * count {
+        let limit = Grams(1000000000000 * count);
+        if gram_bits < limit.0 {
             return true;
         }
     }

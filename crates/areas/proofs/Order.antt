@@ -7,8 +7,8 @@ use native.Mathlib.Omega.{arith}
 use lib.Dec.{leb, eqb}
 use lib.ListN.{length, getD}
 use borrow.Author.Tests.{le-leb, eq-eqb, eqb-true, leb-true}
-use Rattle.units.specs.Lists.{allBelow}
-use Rattle.units.proofs.Sums.{all-alike, sum-alike, term-most}
+use Rattle.units.specs.Lists.{allBelow, sumTo}
+use Rattle.units.proofs.Sums.{all-alike, sum-alike, sum-beyond, term-most}
 use Rattle.units.proofs.Tests.{all, at, and-left, and-right}
 use Rattle.classes.specs.Classes.{xCount}
 use Rattle.inventory.specs.declared.Run.{Run}
@@ -60,6 +60,11 @@ module _ (a : Areas) (o : areasInOrder a ≡ true) where
   pub count-most : (i : ℕ) → i < areaCount → countsOf a i ≤ 500
   unfolding commonUse
   count-most i h = omega (arith, term-most (beyondOwn (countsOf a)) areaCount i h, common-is, common-most)
+
+  -- sixteen times 300, and the common 200
+  pub records-most : sumTo (countsOf a) areaCount ≤ 5000
+  unfolding commonUse
+  records-most = omega (arith, sum-beyond (countsOf a) 300 areaCount, common-is, common-most)
 
 -- the way back
 pub order-areas : (a : Areas) → ((i : ℕ) → i < areaCount → areaOk a i ≡ true) → a .common ≡ commonUse (countsOf a) → a .common ≤ commonLimit → areasInOrder a ≡ true

@@ -37,7 +37,7 @@ pub record Areas : Type 0 where
 abbrev pub countsOf : Areas → ℕ → ℕ
 countsOf a i = a .runs i .count
 
--- the records of an area beyond its own 300
+-- the records of an area beyond its own 300, 0 below
 abbrev pub beyondOwn : (ℕ → ℕ) → ℕ → ℕ
 beyondOwn counts i = counts i - ownLimit
 

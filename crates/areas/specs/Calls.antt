@@ -22,9 +22,9 @@ sizeOk numbers = eqb (length numbers) areasSize
 unfoldable pub numbersInOrder : List ℕ → Bool
 numbersInOrder numbers = sizeOk numbers && areasInOrder (areasOf numbers)
 
--- the grounds of every call that is handed an area's number: 16, then 17
-abbrev pub askedGrounds : List ℕ → ℕ → List Ground → List Ground
-askedGrounds numbers area more = ground 16 (not (numbersInOrder numbers)) ∷ ground 17 (ltb 15 area) ∷ more
+-- the grounds of a call on an area: 16, then 17, then its own
+abbrev pub callGrounds : List ℕ → ℕ → List Ground → List Ground
+callGrounds numbers area own = ground 16 (not (numbersInOrder numbers)) ∷ ground 17 (ltb 15 area) ∷ own
 
 -- opening: 16 for another length, then 1, 2
 unfoldable pub openAreasNumber : List ℕ → Head → ℕ
@@ -37,7 +37,7 @@ openAreasNumbers numbers head = cond (sizeOk numbers) (numbersOf (openedAreas he
 -- adding to an area: 16, 17, 3 to 8, 18
 unfoldable pub addAreaNumber : List ℕ → ℕ → Record → ℕ
 addAreaNumber numbers area rec =
-    firstFit (askedGrounds numbers area (areaGrounds (countsOf (areasOf numbers) area) (areasOf numbers .common) rec))
+    firstFit (callGrounds numbers area (areaGrounds (countsOf (areasOf numbers) area) (areasOf numbers .common) rec))
 
 -- the numbers that adding leaves: as they came where the record is refused
 unfoldable pub addAreaNumbers : List ℕ → ℕ → Record → List ℕ
@@ -46,7 +46,7 @@ addAreaNumbers numbers area rec =
 
 -- the run of an area: 16, 17
 unfoldable pub areaRunNumber : List ℕ → ℕ → ℕ
-areaRunNumber numbers area = firstFit (askedGrounds numbers area [])
+areaRunNumber numbers area = firstFit (callGrounds numbers area [])
 
 -- the run that is given: the run of zeros where that is refused
 unfoldable pub areaRun : List ℕ → ℕ → Run

@@ -7,7 +7,7 @@ use inventory::Head;
 use inventory::Record;
 use inventory::Run;
 
-// A number, 0 where it is given, and the run of an area.
+// A number, 0 where the run is given, and the run of an area.
 #[repr(C)]
 pub struct AreaRunAnswer {
     pub number: u64,

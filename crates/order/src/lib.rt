@@ -50,22 +50,23 @@ pub fn rest_mark(rest: u64) -> u64
     rest / 2 + 36870912
 }
 
-// Whether the sums of a run without records are in order: all are 0, which two `or` over them tell without a branch.
+// Whether the sums of a run without records are in order: all are 0, which two `or` over them tell without a branch; else the test
+// sum by sum says no.
 fn no_sums_ok(run: Run) -> bool
     requires { ⌜ run .count ≡ 0 ⌝ }
     ensures { λ b. ⌜ b ≡ allBelow (sumOk run) 60 ⌝ }
 {
-    let mut grams: u64 = 0;
-    let mut rests: u64 = 0;
+    let mut gram_bits: u64 = 0;
+    let mut rest_bits: u64 = 0;
     let mut i: usize = 0;
     while i < 60 {
         let g = run.grams[i];
-        grams = grams | g.0;
-        rests = rests | run.rests[i];
+        gram_bits = gram_bits | g.0;
+        rest_bits = rest_bits | run.rests[i];
         i += 1;
     }
-    if grams == 0 {
-        if rests == 0 {
+    if gram_bits == 0 {
+        if rest_bits == 0 {
             return true;
         }
     }
@@ -80,17 +81,18 @@ fn sums_ok(run: Run) -> bool
     if run.count == 0 {
         return no_sums_ok(run);
     }
-    let mut grams: u64 = 0;
+    let mut gram_bits: u64 = 0;
     let mut marks: u64 = 0;
     let mut j: usize = 0;
     while j < 60 {
         let g = run.grams[j];
-        grams = grams | g.0;
+        gram_bits = gram_bits | g.0;
         marks = marks | rest_mark(run.rests[j]);
         j += 1;
     }
     if marks < 536870912 {
-        if grams < 1000000000000 * run.count {
+        let limit = Grams(1000000000000 * run.count);
+        if gram_bits < limit.0 {
             return true;
         }
     }

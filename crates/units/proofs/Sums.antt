@@ -2,7 +2,7 @@
 use mathlib.Core.Path.{_≡_, refl}
 use mathlib.Core.Bool.{Bool, true, false}
 use mathlib.Core.Logic.{_⊎_, inl, inr, ⊎-elim}
-use Prim.Native.Nat.{ℕ, zero, suc, _+_, _≤_, _<_}
+use Prim.Native.Nat.{ℕ, zero, suc, _+_, _*_, _-_, _≤_, _<_}
 use native.Mathlib.Nat.{eq-or-lt-of-le, le-of-suc-le-suc}
 use native.Mathlib.Omega.{arith}
 use lib.Dec.{leb}
@@ -42,3 +42,9 @@ unfolding sumTo
 term-most f zero i h = absurd (omega arith)
 term-most f (suc n) i h =
     ⊎-elim (λ (e : i ≡ n). rw e (omega arith)) (λ (l : i < n). omega (arith, term-most f n i l)) (eq-or-lt-of-le (le-of-suc-le-suc h))
+
+-- a sum is at most m for each of its terms, and what they have beyond m
+pub sum-beyond : (f : ℕ → ℕ) (m n : ℕ) → sumTo f n ≤ m * n + sumTo (λ i. f i - m) n
+unfolding sumTo
+sum-beyond f m zero = omega arith
+sum-beyond f m (suc n) = omega (arith, sum-beyond f m n)

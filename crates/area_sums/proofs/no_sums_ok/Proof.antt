@@ -19,29 +19,29 @@ abbrev μ-loop : tie.MeasureT-loop
 loop-holds : tie.Need-loop-holds Inv-loop μ-loop
 loop-holds c = let a = c .before .args in let run = runAt (a .numbers .now) (a .at) in (omega arith, within-none (gramsIn run) _, within-none (restIn run) _)
 
-add-rests : tie.Need-add-rests Inv-loop μ-loop
-add-rests c = search needs
+add-rest-bits : tie.Need-add-rest-bits Inv-loop μ-loop
+add-rest-bits c = search needs
 
-add-rests-2 : tie.Need-add-rests-2 Inv-loop μ-loop
-add-rests-2 c = search needs
+add-rest-bits-2 : tie.Need-add-rest-bits-2 Inv-loop μ-loop
+add-rest-bits-2 c = search needs
 
-mul-rests : tie.Need-mul-rests Inv-loop μ-loop
-mul-rests c = search needs
+mul-rest-bits : tie.Need-mul-rest-bits Inv-loop μ-loop
+mul-rest-bits c = search needs
 
-shared-slice-read-rests : tie.Need-shared-slice-read-rests Inv-loop μ-loop
-shared-slice-read-rests c = search needs
+shared-slice-read-rest-bits : tie.Need-shared-slice-read-rest-bits Inv-loop μ-loop
+shared-slice-read-rest-bits c = search needs
 
-add-rests-3 : tie.Need-add-rests-3 Inv-loop μ-loop
-add-rests-3 c = search needs
+add-rest-bits-3 : tie.Need-add-rest-bits-3 Inv-loop μ-loop
+add-rest-bits-3 c = search needs
 
-add-rests-4 : tie.Need-add-rests-4 Inv-loop μ-loop
-add-rests-4 c = search needs
+add-rest-bits-4 : tie.Need-add-rest-bits-4 Inv-loop μ-loop
+add-rest-bits-4 c = search needs
 
-mul-rests-2 : tie.Need-mul-rests-2 Inv-loop μ-loop
-mul-rests-2 c = search needs
+mul-rest-bits-2 : tie.Need-mul-rest-bits-2 Inv-loop μ-loop
+mul-rest-bits-2 c = search needs
 
-shared-slice-read-rests-2 : tie.Need-shared-slice-read-rests-2 Inv-loop μ-loop
-shared-slice-read-rests-2 c = search needs
+shared-slice-read-rest-bits-2 : tie.Need-shared-slice-read-rest-bits-2 Inv-loop μ-loop
+shared-slice-read-rest-bits-2 c = search needs
 
 add-j : tie.Need-add-j Inv-loop μ-loop
 add-j c = search needs
@@ -68,14 +68,14 @@ no-sums-ok-spec =
     Inv-loop
     μ-loop
     loop-holds
-    add-rests
-    add-rests-2
-    mul-rests
-    shared-slice-read-rests
-    add-rests-3
-    add-rests-4
-    mul-rests-2
-    shared-slice-read-rests-2
+    add-rest-bits
+    add-rest-bits-2
+    mul-rest-bits
+    shared-slice-read-rest-bits
+    add-rest-bits-3
+    add-rest-bits-4
+    mul-rest-bits-2
+    shared-slice-read-rest-bits-2
     add-j
     loop-less
     loop-again

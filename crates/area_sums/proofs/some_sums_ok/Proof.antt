@@ -54,11 +54,11 @@ loop-less c = search needs
 loop-again : tie.Need-loop-again Inv-loop μ-loop
 loop-again c = let a = c .before .before .before .before .before .before .before .args in let l = c .before .before .before .before .before .loop in (omega arith, grams-more (a .numbers .now) (a .at) (l .j) _ (omega arith) (l .inv .1), rw (c .rest-mark .ensures) (marks-more (a .numbers .now) (a .at) (l .j) _ (omega arith) (l .inv .2)))
 
-mul-if2 : tie.Need-mul-if2 Inv-loop μ-loop
-mul-if2 c = search needs
+mul-t18 : tie.Need-mul-t18 Inv-loop μ-loop
+mul-t18 c = search needs
 
 returns : tie.Need-returns Inv-loop μ-loop
-returns c = let s = c .before .before .before .before .before in let a = s .args in together (runAt (a .numbers .now) (a .at)) _ _ (c .before .before .before .loop .inv .1) (omega arith) _ (c .before .before .before .loop .inv .2) (c .before .if1 .taken) (rw (← s .pre .1 .0) (c .if2 .taken))
+returns c = let s = c .before .before .before .before .before .before in let a = s .args in together (runAt (a .numbers .now) (a .at)) _ _ (c .before .before .before .before .loop .inv .1) (omega arith) _ (c .before .before .before .before .loop .inv .2) (c .before .before .if1 .taken) (rw (← s .pre .1 .0) (c .if2 .taken))
 
 each-sum-ok-requires : tie.Need-each-sum-ok-requires Inv-loop μ-loop
 each-sum-ok-requires c κs = let s = c .before .before .before .before in (s .pre .0, (s .pre .1 .0, s .pre .1 .1))
@@ -85,7 +85,7 @@ some-sums-ok-spec =
     add-j
     loop-less
     loop-again
-    mul-if2
+    mul-t18
     returns
     each-sum-ok-requires
     returns-2)

@@ -22,11 +22,11 @@ mul-g c = search needs
 element-copy-out-g : tie.Need-element-copy-out-g Inv-loop μ-loop
 element-copy-out-g c = search needs
 
-mul-rests : tie.Need-mul-rests Inv-loop μ-loop
-mul-rests c = search needs
+mul-rest-bits : tie.Need-mul-rest-bits Inv-loop μ-loop
+mul-rest-bits c = search needs
 
-element-copy-out-rests : tie.Need-element-copy-out-rests Inv-loop μ-loop
-element-copy-out-rests c = search needs
+element-copy-out-rest-bits : tie.Need-element-copy-out-rest-bits Inv-loop μ-loop
+element-copy-out-rest-bits c = search needs
 
 add-i : tie.Need-add-i Inv-loop μ-loop
 add-i c = search needs
@@ -55,8 +55,8 @@ no-sums-ok-spec =
     loop-holds
     mul-g
     element-copy-out-g
-    mul-rests
-    element-copy-out-rests
+    mul-rest-bits
+    element-copy-out-rest-bits
     add-i
     loop-less
     loop-again

@@ -46,11 +46,11 @@ loop-less c = search needs
 loop-again : tie.Need-loop-again Inv-loop μ-loop
 loop-again c = let run = c .before .before .before .before .before .before .before .args .t1 in (omega arith, within-more (gramsIn run) _ _ (c .before .before .before .before .before .loop .inv .1), rw (c .rest-mark .ensures) (within-more (markIn run) _ _ (c .before .before .before .before .before .loop .inv .2)))
 
-mul-if3 : tie.Need-mul-if3 Inv-loop μ-loop
-mul-if3 c = search needs
+mul-t21 : tie.Need-mul-t21 Inv-loop μ-loop
+mul-t21 c = search needs
 
 returns-2 : tie.Need-returns-2 Inv-loop μ-loop
-returns-2 c = together (c .before .before .before .before .before .args .t1) _ _ (c .before .before .before .loop .inv .1) (omega arith) _ (c .before .before .before .loop .inv .2) (c .before .if2 .taken) (c .if3 .taken)
+returns-2 c = together (c .before .before .before .before .before .before .args .t1) _ _ (c .before .before .before .before .loop .inv .1) (omega arith) _ (c .before .before .before .before .loop .inv .2) (c .before .before .if2 .taken) (c .if3 .taken)
 
 each-sum-ok-requires : tie.Need-each-sum-ok-requires Inv-loop μ-loop
 each-sum-ok-requires c κs = search needs
@@ -75,7 +75,7 @@ sums-ok-spec =
     add-j
     loop-less
     loop-again
-    mul-if3
+    mul-t21
     returns-2
     each-sum-ok-requires
     returns-3)
