@@ -1,5 +1,6 @@
 pub mod OneAdd
 pub mod Kept
 pub mod References
+pub mod Zeros
 pub mod Lists
 pub mod Worked

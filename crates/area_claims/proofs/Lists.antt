@@ -34,6 +34,7 @@ use Rattle.area_claims.specs.References.{AreaAdd, acceptsIn, entersArea,
 use Rattle.area_claims.specs.Claim.{numbersAfter, AreasAfter, SameAcceptedIn, EveryAreasList, AreasClaim}
 use Rattle.area_claims.proofs.OneAdd.{asks-number, add-number, below-own, takes-in, accepts-low, accepts-own, accepts-few, accepts-alike, number-alike}
 use Rattle.area_claims.proofs.Kept.{here, there, count-next, shaped-next, order-next}
+use Rattle.area_claims.proofs.Zeros.{zeros-left}
 use Rattle.area_claims.proofs.References.{room-own, entered, passed-by, references-are, all-accepted}
 
 -- ---- one add on numbers in order
@@ -270,6 +271,7 @@ pub areas-claim : AreasClaim
 areas-claim =
     record {
       opening = opening;
+      zeros = zeros-left;
       lists = every-list;
       kept = λ numbers adds o. after-list adds numbers (countsOf (areasOf numbers)) o (λ j h. refl) .ordered;
       shared = λ numbers o. records-most (areasOf numbers) (areas-ok numbers o);

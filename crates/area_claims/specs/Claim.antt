@@ -6,7 +6,7 @@ use mathlib.Core.Bool.{true, not, cond}
 use mathlib.Core.List.{List, [], _∷_}
 use lib.Dec.{eqb}
 use lib.ListN.{length}
-use Rattle.units.specs.Lists.{sumTo}
+use Rattle.units.specs.Lists.{tab, sumTo}
 use Rattle.inventory.specs.declared.Head.{Head}
 use Rattle.inventory.specs.declared.Record.{Record}
 use Rattle.inventory.specs.Opening.{openRun}
@@ -53,6 +53,9 @@ pub record AreasClaim : Type 0 where
   -- opening refuses exactly where the length is another, or 1 or 2 fits, with the first that fits
   pub opening : (numbers : List ℕ) (head : Head)
       → openAreasNumber numbers head ≡ cond (not (eqb (length numbers) 2257)) 16 (cond (tripOut (head .trip)) 1 (cond (temperatureOut (head .temps)) 2 0))
+  -- a head that it refuses leaves zeros alone; another length leaves every number (openAreasNumbers)
+  pub zeros : (numbers : List ℕ) (head : Head) → length numbers ≡ 2257 → (openAreasNumber numbers head ≡ 0 → ⊥)
+      → openAreasNumbers numbers head ≡ tab (λ j. 0) 2257
   -- every list of adds to areas that opening took, under every head
   pub lists : (numbers : List ℕ) (head : Head) → openAreasNumber numbers head ≡ 0 → EveryAreasList head (openAreasNumbers numbers head)
   -- any areas in order stay so, whatever is added
