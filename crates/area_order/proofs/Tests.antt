@@ -15,10 +15,10 @@ use Rattle.classes.specs.Classes.{xCount}
 use Rattle.inventory.specs.declared.Run.{Run}
 use Rattle.inventory.specs.Order.{xOk, sumOk, kmOk, inOrder}
 use Rattle.inventory.proofs.Order.{bad-trip, bad-x, bad-count, bad-sum, last-test, count-of}
-use Rattle.areas.specs.Areas.{sameX, sameHead, areaOk, areasInOrder, commonUse, countsOf, beyondOwn}
+use Rattle.areas.specs.Areas.{sameHead, areaOk, areasInOrder, commonUse, countsOf, beyondOwn}
 use Rattle.areas.specs.Numbers.{runAt, areasOf}
 use Rattle.areas.specs.Calls.{numbersInOrder}
-use Rattle.areas.proofs.Numbers.{trip-read, count-read, x-read, km-read}
+use Rattle.areas.proofs.Numbers.{trip-read, count-read, km-read}
 use Rattle.areas.proofs.Order as order
 
 -- ---- one number of the run at a place
@@ -29,26 +29,6 @@ module _ (numbers : List ℕ) (at : ℕ) where
 
   pub km-over : (count k : ℕ) → count ≡ runAt numbers at .count → k < 3 → 1000000000 * count < getD numbers (at + 18 + k) 0 → kmOk (runAt numbers at) k ≡ false
   km-over count k e h l = rw (km-read numbers at k h, ← e) (lt-leb _ _ l)
-
-  pub x-same : (k : ℕ) → k < xCount → getD numbers (1 + k) 0 ≡ getD numbers (at + 1 + k) 0 → sameX (runAt numbers 0) (runAt numbers at) k ≡ true
-  x-same k h e = rw (x-read numbers 0 k h, x-read numbers at k h) (eq-eqb _ _ e)
-
-  pub x-differs : (k : ℕ) → k < xCount → (getD numbers (1 + k) 0 ≡ getD numbers (at + 1 + k) 0 → ⊥) → sameX (runAt numbers 0) (runAt numbers at) k ≡ false
-  x-differs k h e = rw (x-read numbers 0 k h, x-read numbers at k h) (ne-eqb _ _ e)
-
-  pub trip-differs : (getD numbers 0 0 ≡ getD numbers at 0 → ⊥) → false ≡ sameHead (runAt numbers 0) (runAt numbers at)
-  unfolding sameHead
-  trip-differs e = rw (trip-read numbers 0, trip-read numbers at, ne-eqb _ _ e)
-
-  pub trip-same : getD numbers 0 0 ≡ getD numbers at 0 → allBelow (sameX (runAt numbers 0) (runAt numbers at)) xCount ≡ sameHead (runAt numbers 0) (runAt numbers at)
-  unfolding sameHead
-  trip-same e = rw (trip-read numbers 0, trip-read numbers at, eq-eqb _ _ e)
-
-pub x-good : (numbers : List ℕ) (k : ℕ) → k < xCount → getD numbers (1 + k) 0 ≤ 4900000000 → xOk (runAt numbers 0) k ≡ true
-x-good numbers k h l = rw (x-read numbers 0 k h) (le-leb _ _ l)
-
-pub x-over : (numbers : List ℕ) (k : ℕ) → k < xCount → 4900000000 < getD numbers (1 + k) 0 → xOk (runAt numbers 0) k ≡ false
-x-over numbers k h l = rw (x-read numbers 0 k h) (lt-leb _ _ l)
 
 -- ---- a run with the head of one whose L and X are in range
 

@@ -30,39 +30,6 @@ fn kms_ok(numbers: &[u64], at: usize, count: u64) -> bool
     true
 }
 
-// Whether every X of the first run is in range.
-fn xs_ok(numbers: &[u64]) -> bool
-    requires { ⌜ 141 ≤ length (now numbers) ⌝ }
-    ensures { λ b. ⌜ b ≡ allBelow (xOk (runAt (now (numbers .entry)) 0)) xCount ⌝ }
-{
-    let mut k: usize = 0;
-    while k < 16 {
-        if 4900000000 < numbers[1 + k] {
-            return false;
-        }
-        k += 1;
-    }
-    true
-}
-
-// Whether the run at a place has the L and the X of the first.
-fn same_head(numbers: &[u64], at: usize) -> bool
-    requires { ⌜ at + 141 ≤ length (now numbers) ⌝ }
-    ensures { λ b. ⌜ b ≡ sameHead (runAt (now (numbers .entry)) 0) (runAt (now (numbers .entry)) at) ⌝ }
-{
-    if numbers[0] != numbers[at] {
-        return false;
-    }
-    let mut x: usize = 0;
-    while x < 16 {
-        if numbers[1 + x] != numbers[at + 1 + x] {
-            return false;
-        }
-        x += 1;
-    }
-    true
-}
-
 // Whether the run at a place is in order and has the head of the first, whose L and X are in range.
 fn area_ok(numbers: &[u64], at: usize) -> bool
     requires { ⌜ at + 141 ≤ length (now numbers) ⌝ }
@@ -70,7 +37,7 @@ fn area_ok(numbers: &[u64], at: usize) -> bool
     requires { ⌜ allBelow (xOk (runAt (now numbers) 0)) xCount ≡ true ⌝ }
     ensures { λ b. ⌜ b ≡ (inOrder (runAt (now (numbers .entry)) at) && sameHead (runAt (now (numbers .entry)) 0) (runAt (now (numbers .entry)) at)) ⌝ }
 {
-    if !same_head(numbers, at) {
+    if !area_heads::same_head(numbers, at) {
         return false;
     }
     let count = numbers[at + 17];
@@ -103,7 +70,7 @@ pub fn in_order(numbers: &[u64]) -> bool
     if units::is_outside(10, 200, numbers[0]) {
         return false;
     }
-    if !xs_ok(numbers) {
+    if !area_heads::xs_ok(numbers) {
         return false;
     }
     let mut common: u64 = 0;

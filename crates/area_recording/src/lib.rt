@@ -1,31 +1,11 @@
-// Opening areas, adding to one of them, and the run of one. They are lent as 2,257 numbers and changed in place.
+// Adding to an area, and the run of one. Areas are lent as 2,257 numbers and changed in place.
 ghost use mathlib.Core.Path.{_≡_};
 ghost use Rattle.units.specs.Refusals.{verdictNumber};
-ghost use Rattle.areas.specs.Calls.{openAreasNumber, openAreasNumbers, addAreaNumber, addAreaNumbers, areaRunNumber, areaRun};
+ghost use Rattle.areas.specs.Calls.{addAreaNumber, addAreaNumbers, areaRunNumber, areaRun};
 use areas::AreaRun;
-use inventory::Head;
 use inventory::Record;
 use units::Refusal;
 use units::Verdict;
-
-// Opens areas: 16 where there are not 2,257 numbers, which then stay as they came; then 1, 2, which leave areas of zeros.
-pub fn open_areas(numbers: &mut [u64], head: Head) -> Verdict
-    ensures number { λ v. ⌜ verdictNumber v ≡ openAreasNumber (now (numbers .entry)) head ⌝ }
-    ensures numbers { λ v. ⌜ now (numbers .exit) ≡ openAreasNumbers (now (numbers .entry)) head ⌝ }
-{
-    if numbers.len() != 2257 {
-        return Verdict::Refused(Refusal::RunOrder);
-    }
-    let opened = recording::open_run(head);
-    let run = opened.run;
-    let mut i: usize = 0;
-    while i < 16 {
-        area_runs::put_run(numbers, i * 141, run);
-        i += 1;
-    }
-    numbers[2256] = 0;
-    opened.verdict
-}
 
 // Adds a record to an area: 16, 17, 3 to 8, 18, which leave every number as it came.
 pub fn add_area(numbers: &mut [u64], area: u64, rec: Record) -> Verdict

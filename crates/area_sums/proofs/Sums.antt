@@ -5,8 +5,8 @@ use Prim.Native.Nat.{ℕ, _+_, _*_, _<_}
 use lib.Bits.{bitOr}
 use lib.ListN.{getD}
 use Rattle.inventory.specs.Order.{gramsIn, restIn, sumWithin, sumOk}
-use Rattle.order.specs.Marks.{restMark}
-use Rattle.order.proofs.Together.{Within, within-more, markIn}
+use Rattle.run_sums.specs.Marks.{restMark}
+use Rattle.run_sums.proofs.Together.{Within, within-more, markIn}
 use Rattle.areas.specs.Numbers.{runAt}
 use Rattle.areas.proofs.Numbers.{grams-read, rest-read}
 

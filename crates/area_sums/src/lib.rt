@@ -16,7 +16,7 @@ fn each_sum_ok(numbers: &[u64], at: usize, count: u64) -> bool
     let limit = Grams(1000000000000 * count);
     let mut k: usize = 0;
     while k < 60 {
-        if !order::sum_ok(limit, Grams(numbers[at + 21 + k]), numbers[at + 81 + k]) {
+        if !run_sums::sum_ok(limit, Grams(numbers[at + 21 + k]), numbers[at + 81 + k]) {
             return false;
         }
         k += 1;
@@ -60,7 +60,7 @@ fn some_sums_ok(numbers: &[u64], at: usize, count: u64) -> bool
     while j < 60 {
         let g = Grams(numbers[at + 21 + j]);
         gram_bits = gram_bits | g.0;
-        marks = marks | order::rest_mark(numbers[at + 81 + j]);
+        marks = marks | run_sums::rest_mark(numbers[at + 81 + j]);
         j += 1;
     }
     if marks < 536870912 {

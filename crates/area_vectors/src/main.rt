@@ -49,7 +49,7 @@ fn print_all(numbers: &[u64]) {
 }
 
 fn opening(numbers: &mut [u64], head: Head) {
-    let v = area_recording::open_areas(numbers, head);
+    let v = area_opening::open_areas(numbers, head);
     print(units::verdict_number(v));
 }
 

@@ -19,7 +19,7 @@ pub extern "C" fn haldurap_open_areas(numbers: &mut [u64], head: Head) -> u64
     ensures number { λ n. ⌜ n ≡ openAreasNumber (now (numbers .entry)) head ⌝ }
     ensures numbers { λ n. ⌜ now (numbers .exit) ≡ openAreasNumbers (now (numbers .entry)) head ⌝ }
 {
-    let v = area_recording::open_areas(numbers, head);
+    let v = area_opening::open_areas(numbers, head);
     let opened = units::verdict_number(v);
     opened
 }

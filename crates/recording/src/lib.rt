@@ -51,7 +51,7 @@ pub fn open_run(head: Head) -> Opened
     }
     let temps = head.temps;
     run.trip = head.trip;
-    let x = coldstart::cold_values(head.trip, &temps);
+    let x = cold_values::cold_values(head.trip, &temps);
     run.x = x;
     Opened {
         run,

@@ -3,7 +3,7 @@ use mathlib.Core.Path.{sym}
 use Prim.Native.Nat.{_-_, _≤_}
 use native.Mathlib.Omega.{arith}
 use Rattle.inventory.specs.Order.{gramsIn, restIn}
-use Rattle.order.proofs.Together.{Within, within-none, all-none}
+use Rattle.run_sums.proofs.Together.{Within, within-none, all-none}
 use Rattle.areas.specs.Numbers.{runAt}
 use Rattle.area_sums.proofs.Sums.{grams-more, rests-more}
 use borrow.Author.Needs.{needs}

@@ -2,7 +2,7 @@
 use Prim.Native.Nat.{_-_, _≤_}
 use native.Mathlib.Omega.{arith}
 use Rattle.inventory.specs.Order.{gramsIn}
-use Rattle.order.proofs.Together.{Within, within-none, markIn, together}
+use Rattle.run_sums.proofs.Together.{Within, within-none, markIn, together}
 use Rattle.areas.specs.Numbers.{runAt}
 use Rattle.area_sums.proofs.Sums.{grams-more, marks-more}
 use borrow.Author.Needs.{needs}
