@@ -10,21 +10,18 @@ use borrow.Author.Tests.{eqb-true, eqb-false}
 use Rattle.units.specs.Lists.{sumTo}
 use Rattle.units.specs.Grounds.{firstFit}
 use Rattle.units.proofs.Tab.{tab-length}
-use Rattle.units.proofs.Tests.{all}
 use Rattle.classes.specs.Classes.{xCount}
 use Rattle.inventory.specs.declared.Head.{Head}
-use Rattle.inventory.specs.declared.Record.{Record}
-use Rattle.inventory.specs.declared.Run.{Run}
 use Rattle.inventory.specs.Order.{inOrder}
 use Rattle.inventory.specs.Opening.{openNumber, openRun, freshRun, zeroRun, emptyRun}
-use Rattle.inventory.specs.Adding.{runWith, addRun}
+use Rattle.inventory.specs.Adding.{addRun}
 use Rattle.accuracy.specs.Conditions.{tripOut, temperatureOut}
-use Rattle.accuracy.specs.Reference.{Reference, empty, referenceFrom, referenceOf, accepts, hasRoom, accepted, occurs}
+use Rattle.accuracy.specs.Reference.{empty, referenceFrom, referenceOf}
 use Rattle.accuracy.specs.Claim.{runAfter, ListClaim, SameReport, EveryList}
 use Rattle.accuracy.proofs.Closed.{takes-accepted}
 use Rattle.accuracy.proofs.Conditions as conditions
 use Rattle.accuracy.proofs.Whole as whole
-use Rattle.areas.specs.Areas.{Areas, countsOf, beyondOwn, commonUse, areaOk, areasInOrder, areasWith, openedAreas}
+use Rattle.areas.specs.Areas.{countsOf, commonUse, areasInOrder, areasWith, openedAreas}
 use Rattle.areas.specs.Numbers.{areasOf, numbersOf}
 use Rattle.areas.specs.Calls.{sizeOk, numbersInOrder, openAreasNumber, openAreasNumbers, addAreaNumbers, areaRun}
 use Rattle.areas.proofs.Numbers.{Shaped, shaped-at, run-back}

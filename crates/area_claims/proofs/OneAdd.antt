@@ -3,19 +3,16 @@ use mathlib.Core.Path.{_≡_, refl, ap, sym, _∙_}
 use mathlib.Core.Bool.{Bool, true, false, not, cond, _&&_}
 use mathlib.Core.Logic.{⊎-elim}
 use mathlib.Core.List.{List}
-use Prim.Native.Nat.{ℕ, _+_, _-_, _≤_, _<_}
+use Prim.Native.Nat.{ℕ, _-_, _≤_, _<_}
 use native.Mathlib.Omega.{arith}
 use lib.Dec.{eqb, leb, ltb}
-use borrow.Author.Tests.{lt-ltb, le-ltb, lt-leb, leb-false, ltb-true, ltb-false, not-true}
-use Rattle.units.specs.Lists.{sumTo}
-use Rattle.units.specs.Grounds.{firstFit}
+use borrow.Author.Tests.{lt-ltb, le-ltb, lt-leb, leb-false, ltb-false, not-true}
 use Rattle.units.proofs.Sums.{le-or-lt, sum-alike, term-most}
 use Rattle.units.proofs.Tests.{and-left, and-right, never}
 use Rattle.inventory.specs.declared.Record.{Record}
-use Rattle.accuracy.specs.Conditions.{recordElse}
 use Rattle.accuracy.specs.Reference.{acceptable, accepts}
 use Rattle.accuracy.proofs.Conditions.{record-else}
-use Rattle.areas.specs.Areas.{Areas, countsOf, beyondOwn, commonUse, areaFull, areaGrounds}
+use Rattle.areas.specs.Areas.{countsOf, beyondOwn, commonUse, areaFull, areaGrounds}
 use Rattle.areas.specs.Numbers.{areasOf}
 use Rattle.areas.specs.Calls.{numbersInOrder, addAreaNumber, areaRunNumber}
 use Rattle.areas.proofs.Order.{areas-ok, common-is}

@@ -22,7 +22,7 @@ use Rattle.areas.specs.Calls.{openAreasNumber, openAreasNumbers, areaRun}
 use Rattle.area_claims.specs.Conditions.{noArea, commonRecords, fullArea}
 use Rattle.area_claims.specs.References.{acceptsIn, entersArea, countsWith, acceptedInFrom, acceptedIn}
 use Rattle.area_claims.specs.Claim.{numbersAfter}
-use Rattle.area_claims.specs.Worked.{exampleAdds, exampleCo, allBut, AreasWorkedClaim}
+use Rattle.area_claims.specs.Worked.{exampleAdds, exampleCo, AreasWorkedClaim}
 use Rattle.area_claims.proofs.Lists.{areas-claim}
 
 accepted-3 : acceptedIn 3 exampleAdds ≡ exampleOf 2 ∷ exampleOf 2 ∷ []

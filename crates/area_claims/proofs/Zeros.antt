@@ -1,15 +1,12 @@
 -- A refused head leaves nothing but zeros. Assumes nothing.
-use mathlib.Core.Path.{_≡_, refl, ap, sym, _∙_}
+use mathlib.Core.Path.{_≡_, refl, ap, _∙_}
 use mathlib.Core.Bool.{Bool, true, false, cond}
 use mathlib.Core.Logic.{⊎-elim}
 use mathlib.Core.List.{List}
 use Prim.Native.Nat.{ℕ, _-_, _%_, _≤_, _<_}
-use native.Mathlib.Omega.{arith}
-use lib.Dec.{eqb, ltb}
+use lib.Dec.{ltb}
 use lib.ListN.{length, getD, List·getD-eq-default}
 use borrow.Author.Tests.{eq-eqb, ne-eqb}
-use Rattle.units.specs.declared.Grams.{Grams}
-use Rattle.units.specs.declared.VehicleKm.{VehicleKm}
 use Rattle.units.specs.Lists.{tab}
 use Rattle.units.specs.Grounds.{firstFit}
 use Rattle.units.proofs.Sums.{le-or-lt}

@@ -1,7 +1,7 @@
 -- The conditions of 17 and 18 in the words of SPECIFICATION, "Areas", over plain numbers. They are written out apart from the
 -- definitions that the calls go by, so that a wrong one there breaks the claim.
 -- Assumes nothing.
-use Prim.Native.Nat.{ℕ, _+_, _-_}
+use Prim.Native.Nat.{ℕ, _-_}
 use mathlib.Core.Bool.{Bool, cond, _&&_}
 use lib.Dec.{leb, ltb}
 use Rattle.units.specs.Lists.{sumTo}

@@ -17,7 +17,7 @@ use Rattle.classes.specs.Classes.{xCount}
 use Rattle.inventory.specs.declared.Run.{Run}
 use Rattle.inventory.specs.Order.{gramsIn, restIn, kmIn}
 use Rattle.areas.specs.Areas.{Areas}
-use Rattle.areas.specs.Numbers.{numberAt, kmAt, gramsAt, runSize, commonPlace, areasSize, runAt, runNumber, areasOf, areasNumber, numbersOf}
+use Rattle.areas.specs.Numbers.{numberAt, kmAt, gramsAt, runSize, areasSize, runAt, runNumber, areasOf, areasNumber, numbersOf}
 
 -- ---- the run at a place
 

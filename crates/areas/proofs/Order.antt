@@ -14,7 +14,7 @@ use Rattle.classes.specs.Classes.{xCount}
 use Rattle.inventory.specs.declared.Run.{Run}
 use Rattle.inventory.specs.Order.{inOrder}
 use Rattle.areas.specs.Areas.{Areas, areaCount, commonLimit, countsOf, beyondOwn, commonUse, sameX, sameHead, areaOk, areasInOrder}
-use Rattle.areas.specs.Numbers.{runSize, commonPlace, areasSize, runAt, areasOf, numbersOf}
+use Rattle.areas.specs.Numbers.{areasSize, areasOf, numbersOf}
 use Rattle.areas.specs.Calls.{sizeOk, numbersInOrder}
 use Rattle.areas.proofs.Numbers.{Shaped, run-back, common-back, size-of}
 

@@ -1,17 +1,16 @@
 -- Laws of what a record brings to a run. Assumes nothing.
-use mathlib.Core.Path.{_≡_, refl, ap, sym, _∙_}
+use mathlib.Core.Path.{_≡_, refl, _∙_}
 use mathlib.Core.Bool.{Bool, true, false, not, cond, _&&_}
-use mathlib.Core.List.{List, [], _∷_, _++_}
+use mathlib.Core.List.{List}
 use Prim.Native.Nat.{ℕ, _+_, _*_, _/_, _%_, _≤_, _<_}
 use native.Mathlib.Nat.{mul-le-mul}
 use native.Mathlib.Omega.{arith}
 use lib.ListN.{getD}
 use lib.Dec.{ltb, leb, eqb}
-use borrow.Author.Tests.{lt-ltb, le-ltb, lt-leb, le-leb, eq-eqb, ne-eqb, ltb-true, ltb-false}
+use borrow.Author.Tests.{lt-ltb, lt-leb, le-leb, eq-eqb, ne-eqb, ltb-true, ltb-false}
 use Rattle.units.specs.declared.Grams.{Grams}
-use Rattle.units.specs.Grounds.{Ground, ground, firstFit}
+use Rattle.units.specs.Grounds.{firstFit}
 use Rattle.classes.specs.Classes.{fuelOf, hasCold}
-use Rattle.factors.specs.Factors.{emissionFactor, Driven}
 use Rattle.classes.proofs.Classes.{x-below}
 use Rattle.factors.proofs.Factors.{factor-most}
 use Rattle.coldstart.specs.ColdStart.{coldFactor}

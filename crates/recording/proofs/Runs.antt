@@ -1,7 +1,7 @@
 -- The number and the run of opening and of an add, from the verdict on the head or the record. Assumes nothing.
-use mathlib.Core.Path.{_≡_, refl, ap, sym, _∙_}
-use mathlib.Core.Bool.{Bool, true, false, not, cond}
-use mathlib.Core.List.{List, [], _∷_}
+use mathlib.Core.Path.{_≡_, refl, sym, _∙_}
+use mathlib.Core.Bool.{Bool, true, false, cond}
+use mathlib.Core.List.{List, []}
 use Prim.Native.Nat.{ℕ, _≤_, _<_}
 use native.Mathlib.Omega.{arith}
 use lib.Dec.{eqb, leb}
@@ -9,7 +9,7 @@ use borrow.Author.Tests.{lt-leb, le-leb, leb-false, eqb-true, eqb-false}
 use Rattle.units.specs.declared.Refusal.{Refusal}
 use Rattle.units.specs.declared.Verdict.{Verdict}
 use Rattle.units.specs.declared.Verdict.the-variants.{Taken, Refused}
-use Rattle.units.specs.Grounds.{ground, firstFit}
+use Rattle.units.specs.Grounds.{firstFit}
 use Rattle.units.specs.Refusals.{refusalNumber, verdictNumber}
 use Rattle.units.proofs.Refusals.{number-positive, taken-number, refused-number}
 use Rattle.coldstart.specs.ColdStart.{coldValues}

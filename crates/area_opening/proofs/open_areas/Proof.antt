@@ -4,7 +4,6 @@ use Prim.Native.Nat.{_-_, _≤_}
 use mathlib.Core.Path.{_≡_}
 use lib.ListN.{length, length-set}
 use Rattle.units.specs.Refusals.{verdictNumber, refusalNumber}
-use Rattle.area_runs.proofs.Written.{put-size}
 use Rattle.area_opening.proofs.Opening.{Spread, spread-none, spread-more, spread-done, open-short, open-number, open-written}
 use borrow.Author.Needs.{needs}
 use Rattle.area_opening.proofs.open_areas.Statement.{statement}

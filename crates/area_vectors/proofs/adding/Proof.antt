@@ -1,7 +1,6 @@
 -- `area_vectors::adding` is safe and ends. Assumes nothing.
 use mathlib.Core.Path.{_≡_}
 use Prim.Native.Nat.{_≤_, _-_}
-use native.Mathlib.Omega.{arith}
 use lib.ListN.{length}
 use borrow.Author.Needs.{needs}
 use Rattle.area_vectors.proofs.adding.Statement.{statement}
