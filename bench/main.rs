@@ -5,13 +5,15 @@
 //!     bench [PASSES]
 //!     bench --rows     one pass, as lines `name, archive, (a), (b)` between tabs, for bench/against.py
 //!
-//! With `--cfg no_areas` it is linked with an archive up to layout 3, which has no calls of areas: their rows are left out. With
-//! `--cfg layout_2` as well it is one of layout 2, in whose runs CO of class 3 has no X of its own: the declarations are others
-//! (bench/run.sh makes them), and what goes by that X is not compared.
+//! With `--cfg no_digits` it is linked with an archive up to layout 4, in whose balances the digits worked are not told: the
+//! declarations are others (bench/run.sh makes them), and the digits are not compared. With `--cfg no_areas` as well it is one up
+//! to layout 3, which has no calls of areas: their rows are left out. With `--cfg layout_2` as well it is one of layout 2, in
+//! whose runs CO of class 3 has no X of its own: what goes by that X is not compared.
 #[cfg(not(no_areas))]
 mod areas;
-#[cfg_attr(not(layout_2), path = "../include/haldurap.rs")]
-#[cfg_attr(layout_2, path = "../target/haldurap_layout_2.rs")]
+mod balances;
+#[cfg_attr(not(no_digits), path = "../include/haldurap.rs")]
+#[cfg_attr(no_digits, path = "../target/haldurap_other.rs")]
 mod haldurap;
 #[path = "../tests/differential/random.rs"]
 mod random;
@@ -319,7 +321,7 @@ fn keep<const N: usize>(kept: &mut [f64; N], times: [f64; N]) {
 const LENGTHS: [usize; 10] = [0, 1, 10, 50, 100, 200, 400, 800, 1200, 1596];
 
 /// The best times: of sheets by length, adds by position, the first add, a total, a report, opening, the test of order, a record
-/// of a list, the calls of areas.
+/// of a list, balances by digits, the calls of areas.
 struct Best {
     sheets: [[f64; 3]; LENGTHS.len()],
     adds: [[f64; 10]; 3],
@@ -329,6 +331,7 @@ struct Best {
     open: [f64; 3],
     order: [f64; 3],
     list: [f64; 3],
+    balances: balances::Best,
     #[cfg(not(no_areas))]
     areas: areas::Best,
 }
@@ -337,7 +340,7 @@ impl Best {
     fn rows(&self) -> Vec<Row> {
         let row = |name: &str, times| Row { name: name.into(), times, most: 1.5 };
         let sheet = |n: usize| self.sheets[LENGTHS.iter().position(|&l| l == n).unwrap()];
-        let rows = vec![
+        let mut rows = vec![
             row("sheet to report, 1 record", sheet(1)),
             row("sheet to report, 100 records", sheet(100)),
             row("sheet to report, 1,596 records", sheet(1596)),
@@ -349,8 +352,9 @@ impl Best {
             row("order of a full run", self.order),
             row("list of 5,000, each record", self.list),
         ];
+        rows.extend(self.balances.rows());
         #[cfg(not(no_areas))]
-        let rows = rows.into_iter().chain(self.areas.rows()).collect();
+        rows.extend(self.areas.rows());
         rows
     }
 }
@@ -426,6 +430,7 @@ fn pass(best_of: &mut Best, inputs: &Inputs, runs: &(c::Run, plain::Run, tuned::
     ]);
     keep(&mut best_of.list, times.map(|t| t / 5000.0));
 
+    best_of.balances.pass(runs, repetitions);
     #[cfg(not(no_areas))]
     best_of.areas.pass(inputs, repetitions);
 }
@@ -450,6 +455,7 @@ fn main() {
         open: [f64::MAX; 3],
         order: [f64::MAX; 3],
         list: [f64::MAX; 3],
+        balances: balances::Best::new(),
         #[cfg(not(no_areas))]
         areas: areas::Best::new(),
     };
@@ -467,6 +473,7 @@ fn main() {
     println!("ns for one operation, the best of {passes} passes of 100 repetitions; (a) plain reference, (b) tuned by hand\n");
     println!("{:<36}{:>12}{:>12}{:>12}{:>10}{:>10}", "", "archive", "(a)", "(b)", "to (a)", "to (b)");
     b.rows().iter().for_each(Row::print);
+    b.balances.print();
 
     println!("\nadds by position in the run, ns an add");
     for part in 0..10 {

@@ -13,16 +13,26 @@ build target/bench "$archive"
 [ "${1:-}" = --against ] || exec target/bench "$@"
 other=$2
 [ -f "$other" ] || { echo "there is no archive $other"; exit 1; }
-# the layout of the other archive, told by itself; up to layout 3 there are no areas, and a run of layout 2 has 15 values X
+# the layout of the other archive, told by itself
 echo '#include <stdio.h>
 #include <haldurap.h>
 int main(void) { printf("%d", (int)haldurap_layout().version); }' | gcc -Iinclude -o target/layout_of -x c - -x none "$other"
 layout=$(target/layout_of)
 case $layout in
-4) build target/bench_other "$other" ;;
-3) build target/bench_other "$other" --cfg no_areas ;;
-2) sed 's/pub x: \[u64; 16\]/pub x: [u64; 15]/; s/x: \[0; 16\]/x: [0; 15]/; s/= 2257;/= 2241;/' include/haldurap.rs > target/haldurap_layout_2.rs
-   build target/bench_other "$other" --cfg no_areas --cfg layout_2 ;;
-*) echo "$other has layout $layout; only 2 to 4 can be compared"; exit 1 ;;
+[2-5]) ;;
+*) echo "$other has layout $layout; only 2 to 5 can be compared"; exit 1 ;;
 esac
+# what an earlier one does not have: up to layout 4 the digits of a balance, up to 3 areas, and in a run of layout 2 x[15]
+cfgs=() edits=()
+if [ "$layout" -le 4 ]; then
+    cfgs+=(--cfg no_digits) edits+=(-e 's/pub k: u64, pub digits: u64/pub k: u64/')
+fi
+if [ "$layout" -le 3 ]; then
+    cfgs+=(--cfg no_areas)
+fi
+if [ "$layout" -le 2 ]; then
+    cfgs+=(--cfg layout_2) edits+=(-e 's/pub x: \[u64; 16\]/pub x: [u64; 15]/; s/x: \[0; 16\]/x: [0; 15]/; s/= 2257;/= 2241;/')
+fi
+[ "${#edits[@]}" = 0 ] || sed "${edits[@]}" include/haldurap.rs > target/haldurap_other.rs
+build target/bench_other "$other" "${cfgs[@]}"
 exec python3 bench/against.py target/bench_other target/bench "${@:3}"

@@ -355,6 +355,59 @@ pub fn total(run: &Run, fuel: u64, quantity: u64) -> (u64, u64) {
     (0, total_at(run, (fuel as usize - 1) * 5 + quantity as usize - 1))
 }
 
+/// k and the digits worked of a k in its range: three digits at a time, since a division costs the same for three as for one,
+/// and none where the remainder is 0. 1.5 millionths at most, so five digits are noughts and the sixth is a comparison.
+#[inline]
+fn worked(sold: u64, used: u64) -> Option<(u64, u64)> {
+    // the quick test: behind it S × 10^6 is below 2F, and 1000F has room (k is below 500,000 with a larger F)
+    if sold > 999_999_999 || sold * 1_000_000 >= 2 * used || used > 2_100_000_000_000_000 {
+        return None;
+    }
+    let one = (sold * 1_000_000 >= used) as u64;
+    let rest = sold * 1_000_000 - one * used;
+    if rest == 0 {
+        return (one == 1).then_some((1_000_000, 6));
+    }
+    let (three, rest) = (rest * 1000 / used, rest * 1000 % used);
+    let front = (one * 1000 + three) * 1000;
+    let (k, digits) = if rest == 0 {
+        (front, 6 + digits_of(three))
+    } else {
+        let (three, rest) = (rest * 1000 / used, rest * 1000 % used);
+        (front + three + (2 * rest >= used) as u64, if rest == 0 { 9 + digits_of(three) } else { 12 })
+    };
+    (k.wrapping_sub(500_000) <= 1_000_000).then_some((k, digits))
+}
+
+/// How many of three digits are before the noughts at their end.
+#[inline]
+fn digits_of(three: u64) -> u64 {
+    match three {
+        n if n % 10 != 0 => 3,
+        n if n % 100 != 0 => 2,
+        _ => 1,
+    }
+}
+
+/// The number, k, the digits worked and the balanced total.
+pub fn balance(run: &Run, fuel: u64, quantity: u64, sold: u64) -> (u64, u64, u64, u64) {
+    if !in_order(run) {
+        return (16, 0, 0, 0);
+    }
+    if fuel.wrapping_sub(1) > 2 || quantity.wrapping_sub(1) > 4 {
+        return (11, 0, 0, 0);
+    }
+    let place = (fuel as usize - 1) * 5;
+    let used = total_at(run, place + 4);
+    if used == 0 {
+        return (12, 0, 0, 0);
+    }
+    let Some((k, digits)) = worked(sold, used) else { return (13, 0, 0, 0) };
+    // total × k split at 10^6, since it may have more than 64 bits
+    let total = total_at(run, place + quantity as usize - 1);
+    (0, k, digits, total / 1_000_000 * k + (total % 1_000_000 * k + 500_000) / 1_000_000)
+}
+
 /// A number right-justified in a field of spaces.
 #[inline]
 fn put_number(field: &mut [u8], mut n: u64) {

@@ -35,10 +35,10 @@ assert (number, place, refused) == (0, 0, 0) and vars(listed) == vars(run)
 print("from a list: %d taken, the same" % taken)
 for fuel, sold in ((1, 1000), (2, 4400), (3, 210)):
     for quantity in reference.QUANTITIES:
-        number, k, grams = reference.balance(run, fuel, quantity, sold)
+        number, k, digits, grams = reference.balance(run, fuel, quantity, sold)
         assert number == 0, (fuel, reference.total(run, fuel, reference.FC))
         if quantity == reference.CO:
-            print("fuel %d: %d t sold, k %d" % (fuel, sold, k))
+            print("fuel %d: %d t sold, k %d in %d digits" % (fuel, sold, k, digits))
         print("  %s %d g" % (reference.NAMES[quantity], grams))
 print("CO2 of gasoline: %d g" % reference.co2(run, 1, 1800)[1])
 number, run = reference.add(run, WRONG[1])

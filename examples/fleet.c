@@ -85,7 +85,8 @@ int main(void) {
         for (uint64_t quantity = HALDURAP_CO; quantity <= HALDURAP_FC; quantity++) {
             haldurap_balance_answer b = haldurap_balance(run, fuel, quantity, sold[fuel - 1]);
             stop_if(b.number, "balance");
-            if (quantity == HALDURAP_CO) printf("fuel %" PRIu64 ": %" PRIu64 " t sold, k %" PRIu64 "\n", fuel, sold[fuel - 1], b.k);
+            if (quantity == HALDURAP_CO)
+                printf("fuel %" PRIu64 ": %" PRIu64 " t sold, k %" PRIu64 " in %" PRIu64 " digits\n", fuel, sold[fuel - 1], b.k, b.digits);
             printf("  %s %" PRIu64 " g\n", names[quantity - 1], b.grams);
         }
     }

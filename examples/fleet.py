@@ -41,10 +41,10 @@ def main():
     print("from a list: %d taken, %s" % (listed.taken, "the same" if bytes(listed.run) == bytes(run) else "another run"))
     for fuel, sold in SOLD.items():
         for name, quantity in zip(NAMES, haldurap.QUANTITIES):
-            k, grams = haldurap.balance(run, fuel, quantity, sold)
+            b = haldurap.balance(run, fuel, quantity, sold)
             if quantity == haldurap.CO:
-                print("fuel %d: %d t sold, k %d" % (fuel, sold, k))
-            print("  %s %d g" % (name, grams))
+                print("fuel %d: %d t sold, k %d in %d digits" % (fuel, sold, b.k, b.digits))
+            print("  %s %d g" % (name, b.grams))
     # 1.8 hydrogen per carbon.
     print("CO2 of gasoline: %d g" % haldurap.co2(run, haldurap.GASOLINE, 1800))
     # A refused add raises Refused and leaves the run as it was, a list passes the record over, a sheet is sent back.

@@ -84,7 +84,7 @@ fn main() -> Result<(), String> {
             let b = haldurap_balance(run, fuel, quantity, sold);
             let grams = taken(b.number, b.grams)?;
             if quantity == CO {
-                println!("fuel {fuel}: {sold} t sold, k {}", b.k);
+                println!("fuel {fuel}: {sold} t sold, k {} in {} digits", b.k, b.digits);
             }
             println!("  {name} {grams} g");
         }

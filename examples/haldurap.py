@@ -15,7 +15,7 @@ import os
 from collections import namedtuple
 from ctypes import POINTER, Structure, c_double, c_int64, c_size_t, c_uint8, c_uint64
 
-LAYOUT = 4
+LAYOUT = 5
 MOST_RECORDS = 5000
 MOST_TEXT = 65536
 LINE_BYTES = 97
@@ -76,6 +76,8 @@ class Refused(Exception):
 
 # What add_list gives: the run, how many records were taken, the place (from 1) and the number of the first refused one.
 ListAdded = namedtuple("ListAdded", "run taken place refused")
+# What balance gives: k in millionths, the digits worked to find it, the balanced total in grams.
+Balance = namedtuple("Balance", "k digits grams")
 # What report_sheet gives: the text, and the sheet's own number (0: taken) and line.
 SheetText = namedtuple("SheetText", "text number line")
 
@@ -224,7 +226,7 @@ class GramsAnswer(Structure):
 
 
 class BalanceAnswer(Structure):
-    _fields_ = [("number", c_uint64), ("k", c_uint64), ("grams", c_uint64)]
+    _fields_ = [("number", c_uint64), ("k", c_uint64), ("digits", c_uint64), ("grams", c_uint64)]
 
 
 class LengthAnswer(Structure):
@@ -415,9 +417,10 @@ def kinds(run, fuel, quantity):
 
 
 def balance(run, fuel, quantity, sold):
-    """k in millionths and the balanced total in grams; sold in tonnes. Refuses 16, 11, 12, 13."""
+    """A Balance: k in millionths, the digits worked to find it, and the balanced total in grams; sold in tonnes. With fewer than
+    12 digits k is exactly sold over used fuel; 12 does not tell. Refuses 16, 11, 12, 13."""
     answer = _ask("balance", run, fuel=fuel, quantity=quantity, sold=sold)
-    return answer.k, answer.grams
+    return Balance(answer.k, answer.digits, answer.grams)
 
 
 def co2(run, fuel, hydrogen):

@@ -70,7 +70,7 @@ extern "C" {
 #endif
 
 /* The layout that this header describes; haldurap_layout() tells that of the archive. */
-#define HALDURAP_LAYOUT 4   /* a struct joined those that cross; the run's own layout is that of 3 */
+#define HALDURAP_LAYOUT 5   /* digits joined haldurap_balance_answer; the run's own layout is that of 3 */
 
 /* Limits. */
 #define HALDURAP_MOST_RECORDS 5000      /* records in a run */
@@ -198,11 +198,12 @@ typedef struct haldurap_grams_answer {
     uint64_t grams;             /*   8  0 where refused */
 } haldurap_grams_answer;
 
-/* A number, the balance's factor and the balanced total. 24 bytes. */
+/* A number, the balance's factor, the digits worked to find it, and the balanced total. 32 bytes. */
 typedef struct haldurap_balance_answer {
     uint64_t number;            /*   0 */
     uint64_t k;                 /*   8  sold over used fuel, millionths, 500,000 to 1,500,000; 0 where refused */
-    uint64_t grams;             /*  16  the balanced total, grams; 0 where refused */
+    uint64_t digits;            /*  16  the digits worked, 6 to 12; 0 where refused */
+    uint64_t grams;             /*  24  the balanced total, grams; 0 where refused */
 } haldurap_balance_answer;
 
 /* A number and how many bytes were written. 16 bytes. */
@@ -317,7 +318,13 @@ HALDURAP_ANSWER haldurap_grams_answer haldurap_cold(haldurap_run run, uint64_t f
 
 /* The balance against sold fuel, in tonnes (0 to 999,999,999). With F the printed total of FC of this
    fuel, k = sold x 10^12 / F, half up, and the balanced total of the quantity is its printed total
-   x k / 1,000,000, half up. Refuses 16, 11, 12 (F is 0), 13 (sold over the limit, or k out of range). */
+   x k / 1,000,000, half up.
+   k is found as sold over F, then one digit at a time through the twelve noughts, ending where the
+   remainder is 0. digits is how many were worked: the least n from 0 to 12 with sold x 10^n a multiple
+   of F, or 12 if there is none. Fewer than 12 mean that k is exactly sold x 10^12 / F, without rounding;
+   12 does not tell.
+   Refuses 16, 11, 12 (F is 0), 13 (sold over the limit, or k out of range, as where sold is a multiple
+   of F). */
 HALDURAP_ANSWER haldurap_balance_answer haldurap_balance(haldurap_run run, uint64_t fuel, uint64_t quantity, uint64_t sold);
 
 /* From the fuel used F (the printed total of FC of this fuel), grams, half up; an F of 0 gives 0.

@@ -7,7 +7,7 @@
 compile_error!("haldurap.rs: the archive is for x86-64 Linux with 64-bit pointers");
 
 /// The layout that this file describes; `haldurap_layout` tells that of the archive.
-pub const LAYOUT: u64 = 4;
+pub const LAYOUT: u64 = 5;
 
 /// Records in a run.
 pub const MOST_RECORDS: u64 = 5000;
@@ -141,10 +141,11 @@ pub struct RunAnswer { pub number: u64, pub run: Run }
 #[derive(Clone, Copy, Debug, PartialEq)]
 pub struct GramsAnswer { pub number: u64, pub grams: u64 }
 
+/// `digits` are the digits worked in finding `k`, 6 to 12 where taken; with fewer than 12, `k` is exact.
 #[repr(C)]
 #[must_use]
 #[derive(Clone, Copy, Debug, PartialEq)]
-pub struct BalanceAnswer { pub number: u64, pub k: u64, pub grams: u64 }
+pub struct BalanceAnswer { pub number: u64, pub k: u64, pub digits: u64, pub grams: u64 }
 
 #[repr(C)]
 #[must_use]

@@ -87,11 +87,11 @@ def cold_starts():
 def figures():
     run = ref.add(ref.open_run((120, [100] * 12))[1], (2, 1000, 10000, (40, 40, 20), (20, 60, 100)))[1]
     icy = ref.open_run((10, [-297] * 12))[1]
-    k, balanced = ref.balance(run, 1, 1, 1000)[1:]
+    k, digits, balanced = ref.balance(run, 1, 1, 1000)[1:]
     co = ref.hot_factor(2, ref.CO, 0, 20)
     wanted = [ref.cold_share(120, 100)] + [run.x[ref.x_name(cls, q)] for cls in (2, 3) for q in (ref.CO, ref.NOX, ref.VOC, ref.FC)]
     wanted += [icy.x[ref.x_name(cls, ref.CO)] for cls in (2, 3)] + [ref.half_up(Fraction(icy.x[ref.x_name(2, ref.CO)] * 72, 100))]
-    wanted += [ref.hot_factor(2, ref.CO, 0, v) for v in (20, 60, 100)] + [ref.cold_factor(co, run.x[1, ref.CO]), k, balanced]
+    wanted += [ref.hot_factor(2, ref.CO, 0, v) for v in (20, 60, 100)] + [ref.cold_factor(co, run.x[1, ref.CO]), k, digits, balanced]
     wanted += [ref.half_up(Fraction(44011000 * 13825400, 12011000 + 1008 * 1800)), ref.half_up(Fraction(3 * 1000000 * 2, 4000000))]
     table = [row for row in rows(SECTIONS["Figures"]) if len(row) == 2][1:]
     same("the table of figures", [int(row[1].split(" ")[0].replace(",", "")) for row in table], wanted)

@@ -108,8 +108,8 @@ def questions(run, wanted, rng):
             same(outcome(h.map_row, run, fuel, quantity), either(number, tuple(floats)), "map_row " + where)
             used = ref.total(wanted, fuel, 5)[1] // 10**6
             for sold in (0, used, rng.randrange(used // 2, 2 * used + 2), 10**9, 2**64 - 1):
-                number, k, grams = ref.balance(wanted, fuel, quantity, sold)
-                same(outcome(h.balance, run, fuel, quantity, sold), either(number, (k, grams)), "balance %s, %d sold" % (where, sold))
+                number, *balance = ref.balance(wanted, fuel, quantity, sold)
+                same(outcome(h.balance, run, fuel, quantity, sold), either(number, tuple(balance)), "balance %s, %d sold" % (where, sold))
         for name in ("co2", "so2", "lead"):
             for content in (0, 1, 1000, 1001, 1800, 4000, 4001, 10000, 10001, 2**64 - 1):
                 number, grams = getattr(ref, name)(wanted, fuel, content)
@@ -170,6 +170,20 @@ def runs(rng):
     listed(full, full, "add_list of 5,001 records")
     number, run = 0, h.add_list(head_of(head), full).run
     same(outcome(h.add, run, record_of(vectors.EXAMPLE)), refused(9), "add to a full run")
+
+
+def digits():
+    """Balances by the digits worked, FC of diesel set by hand: 6 to 12, 12 without an end, and S a multiple of it."""
+    wanted = ref.open_run((120, vectors.MILD))[1]
+    wanted.count, wanted.grams[2, 1, "cold"] = 1, 987654321
+    for worked, f, sold in ((6, 10**6, 1), (7, 1250000, 1), (8, 800000, 1), (9, 1953125, 1), (10, 3200000, 3), (11, 1280000, 1), (12, 2560000, 3),
+                            (12, 1024000, 1), (12, 999983, 1), (None, 1000, 1000), (None, 1000, 0)):
+        wanted.grams[2, 5, "rural"] = f
+        number, *balance = ref.balance(wanted, 2, 1, sold)
+        found = outcome(h.balance, run_of(wanted), 2, 1, sold)
+        same(found, either(number, tuple(balance)), "balance of %d t and %d g" % (sold, f))
+        same(getattr(found, "digits", None), worked, "digits of %d t and %d g" % (sold, f))
+    same(h.Balance._fields, ("k", "digits", "grams"), "balance's fields")
 
 
 def areas(rng):
@@ -498,6 +512,7 @@ def main():
     whole_module()
     wrong_arguments()
     runs(rng)
+    digits()
     areas(rng)
     shared_records()
     areas_out_of_order()

@@ -1,5 +1,5 @@
 """The inventory in exact whole numbers, written from the customer's request alone: "COPERT II inventory core", its
-document 01, and the jobs of its document 02 that have landed (1, 2, 3), of which docs/SPECIFICATION.md says the same in our
+document 01, and the jobs of its document 02 that have landed (1 to 4), of which docs/SPECIFICATION.md says the same in our
 own words. Nothing here comes from the Rattle code. Lists of records, and the number and line beside a text, are from
 SPECIFICATION, "Lists of records" and "Report"; the order of the numbers of lent areas is from that page too.
 
@@ -316,18 +316,23 @@ def total(run, fuel, quantity):
     return 0, half_up(Fraction(sum(run.sum(fuel, quantity, kind) for kind in KINDS), 10**9))
 
 
+def digits_worked(sold, f):
+    """The least n from 0 to 12 with S × 10^n a multiple of F, or 12 if there is none."""
+    return next((n for n in range(13) if sold * 10**n % f == 0), 12)
+
+
 def balance(run, fuel, quantity, sold):
-    """The number, k and the balanced total; sold is S in tonnes."""
+    """The number, k, the digits worked and the balanced total; sold is S in tonnes."""
     number = question_number(run, fuel, quantity)
     if number:
-        return number, 0, 0
+        return number, 0, 0, 0
     f = total(run, fuel, FC)[1]
     if f == 0:
-        return 12, 0, 0
+        return 12, 0, 0, 0
     k = half_up(Fraction(sold * 10**12, f))
     if sold > 999999999 or not 500000 <= k <= 1500000:
-        return 13, 0, 0
-    return 0, k, half_up(Fraction(total(run, fuel, quantity)[1] * k, 10**6))
+        return 13, 0, 0, 0
+    return 0, k, digits_worked(sold, f), half_up(Fraction(total(run, fuel, quantity)[1] * k, 10**6))
 
 
 def report_text(run):

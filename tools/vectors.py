@@ -11,11 +11,13 @@ nothing with the Rattle code. Each list of totals is also held against demand 3'
     set FIELD INDEX VALUE                           nothing; a field of the run changed by hand
     total FUEL QUANTITY                             number, grams
     kind FUEL QUANTITY KIND                         number, grams
-    balance FUEL QUANTITY S                         number, k, grams
+    balance FUEL QUANTITY S                         number, k, digits worked, grams
     report BYTES                                    number, length; then the buffer, full of dots before
     list                                            number and grams of the four kinds and the total of each fuel and quantity
     fields                                          every field of the run
 """
+import itertools
+import math
 import os
 import random
 import sys
@@ -274,6 +276,97 @@ def balances(c):
             c.say("balance", 3, 2, 1)
 
 
+def digits(c):
+    """The digits worked: F is set by hand, so that S/F ends at the digit that is wanted, or does not end."""
+    c.open(120, MILD)
+    c.set(COUNT, 0, 5000)
+    # a total of its own for each fuel and quantity but FC
+    for i, (_, quantity, kind) in enumerate(PLACES):
+        if kind == "cold" and quantity != ref.FC:
+            c.set(GRAMS, i, 1234567890123 + 71 * i)
+    places = itertools.cycle((fuel, quantity) for quantity in ref.QUANTITIES for fuel in ref.FUELS)
+
+    def ask(f, *solds):
+        for sold in solds:
+            fuel, quantity = next(places)
+            c.set(GRAMS, PLACES.index((fuel, ref.FC, "rural")), f)
+            c.say("balance", fuel, quantity, sold)
+
+    def fuel_used(fuel, grams, rests):
+        for kind, rest in zip(ref.KINDS, rests):
+            c.set(GRAMS, PLACES.index((fuel, ref.FC, kind)), grams)
+            c.set(REST, PLACES.index((fuel, ref.FC, kind)), rest)
+
+    # F with factors 2 and 5 only, of which the higher power tells the digits. An end behind the twelfth is none; with 2^13 the
+    # remainder is then half of F, and k is rounded up.
+    ends = ((6, 10**6, 1), (7, 2**7 * 5**6, 1), (7, 2**4 * 5**7, 1), (8, 2**8 * 5**5, 1), (8, 2 * 5**8, 1), (9, 2**9 * 5**5, 1), (9, 5**9, 1),
+            (10, 2**10 * 5**5, 3), (10, 5**10, 7), (11, 2**11 * 5**4, 1), (11, 5**11, 49), (12, 2**12 * 5**4, 3), (12, 5**12, 244),
+            (13, 2**13 * 5**3, 1), (13, 2**13 * 5**4, 3), (13, 5**13, 1221), (13, 10**13, 7654321),
+            (15, 2**15 * 5**2, 1), (20, 2**20, 1), (40, 2**40, 1099511), (50, 2**50, 999999999), (21, 5**21, 476837159))
+    for n, f, sold in ends:
+        assert ref.digits_worked(sold, f) == min(n, 12) and sold * 10**n % f == 0 != sold * 10**(n - 1) % f
+        ask(f, sold)
+    # S and F with a common factor, of other primes, of 2 or 5, of both: what is left of F tells the digits. In S + 1 and S - 1
+    # the factor is not there, and stays in F.
+    for factor in (3, 7, 999, 123457, 2**9, 5**9, 2**3 * 5**4 * 7, 3141592):
+        for n, f, sold in ends:
+            if factor * f <= 5 * 10**15 and factor * sold <= 999999999:
+                assert ref.digits_worked(factor * sold, factor * f) == min(n, 12)
+                ask(factor * f, factor * sold)
+        ask(factor * 10**6, factor - 1, factor + 1)
+    ask(7 * 2**13 * 5**4, 2 * 3 * 7, 3 * 7)
+    # F prime, 2 and 5 aside: no end, unless S is a multiple of it.
+    for f, sold in ((666667, 1), (999983, 1), (1000003, 1), (1999993, 1), (999999937, 1000), (999999999989, 1000000),
+                    (999999999999989, 999999999), (1999999999999943, 999999999), (2000001999999989, 999999999)):
+        ask(f, sold)
+    for f in (2, 3, 5, 7, 999983, 999999937):
+        ask(f, f - 1, f)
+    # S a multiple of F, 0 too: no digit is worked, and k is out of range.
+    for f in (1, 2, 1000, 999983, 333333333):
+        ask(f, 0, f, 2 * f, 3 * f)
+    ask(1, 10**6, 999999999)
+    ask(10**6, 0), ask(10**15, 0)
+    # An end before the sixth digit is of a k that is too large; k may be too small behind any.
+    for n in (1, 2, 3, 4, 5, 7, 8, 9, 10, 11, 12):
+        ask(10**n, 1, 3)
+    # k found without rounding, at its limits and beyond them: the noughts that it ends in are the digits that were not worked.
+    for k in (500000, 500001, 500010, 500100, 501000, 510000, 600000, 1000000, 1400000, 1490000, 1499000, 1499900, 1499990, 1499999, 1500000,
+              499999, 499990, 499900, 499000, 490000, 400000, 1500001, 1500010, 1500100, 1501000, 1510000, 1600000, 2000000):
+        ask(10**12, k)
+        ask(7 * 10**12, 7 * k)
+    # The limits by rounding, of a thirteenth digit.
+    ask(10**13, 4999994, 4999995, 4999999, 15000001, 15000004, 15000005)
+    # The largest S, and F beside it.
+    for f in (999999999 * 10**6, 999999999 * 2 * 10**6, 999999999 * 800000, 666666666 * 10**6, 2000001999999998, 2000001999999999, 5 * 10**15):
+        ask(f, 999999998, 999999999, 1000000000)
+    ask(10**15, 10**9, MAX)
+    # At random: the digit of the end, up to two behind the twelfth, and a common factor.
+    rng = random.Random(12)
+    for _ in range(150):
+        n = rng.randint(6, 14)
+        parts = rng.randint(10**n // 2000000, 3 * 10**n // 2000000)
+        shared = math.gcd(parts, 10**n)
+        factor = int(10 ** rng.uniform(0, math.log10(999999999 * shared / max(parts, 1))))
+        ask(factor * 10**n // shared, factor * parts // shared)
+    # F is the printed total, which is 1,000,000 or beside it, whatever its kinds print.
+    for grams, rests in ((250000, (0,) * 4), (250000, (250000000,) * 4), (250000, (249999999, 0, 250000000, 0)), (249999, (500000000,) * 4),
+                         (249999, (999999999,) * 4), (249999, (875000000,) * 4), (249999, (875000000, 875000000, 875000000, 874999999)),
+                         (250000, (125000000,) * 4), (250000, (125000000, 125000000, 125000000, 124999999))):
+        fuel_used(2, grams, rests)
+        c.say("balance", 2, 1, 1)
+        c.say("balance", 2, ref.FC, 1)
+    # The largest F and none, and numbers that come before any digit.
+    for grams in (5 * 10**15, 0):
+        fuel_used(3, grams, (0,) * 4)
+        for sold in (0, 1, 999999999):
+            c.say("balance", 3, 1, sold)
+    fuel_used(1, 250000, (0,) * 4)
+    for fuel, quantity in ((1, 1), (0, 1), (4, 1), (1, 0), (1, 6)):
+        c.say("balance", fuel, quantity, 1)
+    c.set(TRIP, 0, 9)
+    c.say("balance", 1, 1, 1)
+
+
 def rounding(c):
     """Printed kinds and totals at the half gram, and kinds that miss the total by 2 g."""
     c.open(120, MILD)
@@ -458,8 +551,8 @@ def anything(c):
 def cases():
     """Every line of standard input."""
     c = Cases()
-    for part in (example, grounds, head_limits, record_limits, several_wrong, questions, classes, warm, balances, rounding,
-                 below_half, class_3, order, full_runs, any_order, anything):
+    for part in (example, grounds, head_limits, record_limits, several_wrong, questions, classes, warm, balances, digits,
+                 rounding, below_half, class_3, order, full_runs, any_order, anything):
         part(c)
     return c.lines
 
@@ -480,6 +573,8 @@ class Answers:
         self.run = ref.Run()
         # The list since the last taken opening, or None where the run was changed by hand.
         self.head, self.records = None, []
+        # The digits worked of taken balances, and whether the division ends there.
+        self.worked = set()
 
     def open(self, trip, *temps):
         number, self.run = ref.open_run((trip, temps))
@@ -516,7 +611,10 @@ class Answers:
         return ref.kind_total(self.run, fuel, quantity, ref.KINDS[kind])
 
     def balance(self, fuel, quantity, sold):
-        return ref.balance(self.run, fuel, quantity, sold)
+        number, _, worked, _ = answer = ref.balance(self.run, fuel, quantity, sold)
+        if number == 0:
+            self.worked.add((worked, sold * 10**worked % ref.total(self.run, fuel, ref.FC)[1] == 0))
+        return answer
 
     def report(self, size):
         number, length, buffer = ref.write_report(self.run, b"." * size)
@@ -565,7 +663,10 @@ def write_lines(program, lines, answers):
 
 
 def main():
-    write_lines("vectors", cases(), Answers())
+    answers = Answers()
+    write_lines("vectors", cases(), answers)
+    # no case of the digits is lost: 6 to 12, and 12 where there is none
+    assert answers.worked == {(n, True) for n in range(6, 13)} | {(12, False)}
 
 
 if __name__ == "__main__":

@@ -6,6 +6,7 @@
 //!
 //! --small tries a hundredth of it, for valgrind.
 mod areas;
+mod digits;
 #[path = "../../include/haldurap.rs"]
 mod haldurap;
 mod random;
@@ -129,6 +130,7 @@ struct Held {
     no_room: [u64; NUMBERS],
     edits: [[u64; NUMBERS]; random::EDITS.len()],
     areas: areas::Tried,
+    digits: digits::Tried,
     differences: u64,
 }
 
@@ -426,8 +428,8 @@ fn ask_place(held: &mut Held, ours: c::Run, run: &plain::Run, fuel: u64, quantit
 
 fn ask_balance(held: &mut Held, ours: c::Run, run: &plain::Run, fuel: u64, quantity: u64, sold: u64) {
     let b = run.balance(fuel, quantity, sold);
-    let (k, grams) = b.unwrap_or((0, 0));
-    let theirs = c::BalanceAnswer { number: number_of(&b), k, grams };
+    let (k, digits, grams) = b.unwrap_or((0, 0, 0));
+    let theirs = c::BalanceAnswer { number: number_of(&b), k, digits, grams };
     held.same(BALANCE, number_of(&b), c::haldurap_balance(ours, fuel, quantity, sold), theirs, || {
         format!("fuel {fuel} quantity {quantity} sold {sold} of {ours:?}")
     });
@@ -651,7 +653,7 @@ fn printed_numbers(held: &mut Held) {
     assert_eq!(plain::cold_share(120, 100), 29_580_000);
     assert_eq!((theirs.x[0], theirs.x_class_3), ([532_440_000, 23_664_000, 354_960_000, 0, 112_404_000], 383_356_800));
     assert_eq!([20, 60, 100].map(|v| plain::hot_factor(2, 0, 0, v)), [15_095_000, 15_295_000, 34_695_000]);
-    assert_eq!(theirs.balance(1, 1, 1000), Ok((1_039_246, 28_197_012)));
+    assert_eq!(theirs.balance(1, 1, 1000), Ok((1_039_246, 12, 28_197_012)));
     assert_eq!(theirs.balance(1, 1, 481), Err(13));
     assert_eq!(theirs.write_report(&mut [0; 387]), Err(14));
     assert_eq!(theirs.write_report(&mut [0; 388]), Ok(388));
@@ -691,6 +693,7 @@ fn main() {
         no_room: [0; NUMBERS],
         edits: [[0; NUMBERS]; random::EDITS.len()],
         areas: areas::Tried::default(),
+        digits: digits::Tried::default(),
         differences: 0,
     };
     println!("seed {seed}{}", if small { ", a hundredth" } else { "" });
@@ -768,12 +771,14 @@ fn main() {
     lists(&mut held, &mut r, 60_000 / part, small);
     runs += every_factor(&mut held, &mut r);
     areas::areas(&mut held, &mut r, small);
+    digits::digits(&mut held, &mut r, 12_000 / part);
 
     println!("runs opened and added to: {runs}, of them full: {full}; runs in order made up: {made}; runs out of order: {}", held.out_of_order);
     println!("adds: {}; sheets: {}; buffers compared whole: {}; figures not given: {}", held.of(ADD), held.of(SHEET), held.buffers, held.not_given);
     println!("lists: {}, with {} records", held.of(ADD_LIST), held.listed);
     let [warm, cold, mixed] = held.seasons;
     println!("adds of classes 3 and 2 beside each other: {warm} in warm, {cold} in cold, {mixed} in mixed years");
+    println!("balances by the digits worked: {}", held.digits.text());
     let areas::Tried { lists, made, out_of_order, limits } = &held.areas;
     println!(
         "areas: {} opened, {} adds; lists until every area was full: {lists}; in order made up: {made}; out of order: {out_of_order}",

@@ -178,7 +178,7 @@ pub fn any_run_in_order(r: &mut Random) -> Run {
     run_of_count(r, count)
 }
 
-fn run_of_count(r: &mut Random, count: u64) -> Run {
+pub fn run_of_count(r: &mut Random, count: u64) -> Run {
     // Small sums too, so that kinds and totals below a gram and reports with lines left out occur.
     let most = if r.one_in(3) { r.from_to(0, 3).min(count) } else { 1_000_000_000_000 * count };
     let mut run = Run { trip: r.from_to(10, 200), count, ..Run::default() };

@@ -1,5 +1,5 @@
 //! The inventory in plain Rust: ordinary structs, u128 and i128 wherever a product might be large. Written from the
-//! customer's request ("COPERT II inventory core", its document 01, and jobs 1 and 3 of document 02, of which
+//! customer's request ("COPERT II inventory core", its document 01, and jobs 1, 3 and 4 of document 02, of which
 //! docs/SPECIFICATION.md says the same in our own words); lists of records and the number and line beside a text are from that
 //! page itself. Nothing here comes from the Rattle code. A refusal is its number in the table of refusals. Fuels, quantities
 //! and kinds count from 0 inside arrays and from 1 where a caller hands them in; areas count from 0.
@@ -68,6 +68,16 @@ pub struct Run {
 
 fn half_up(numerator: u128, denominator: u128) -> u128 {
     (2 * numerator + denominator) / (2 * denominator)
+}
+
+/// The least n from 0 to 12 with S × 10^n a multiple of F, or 12 if there is none.
+fn digits_worked(sold: u128, used: u128) -> u64 {
+    for n in 0..=12 {
+        if sold * 10u128.pow(n) % used == 0 {
+            return n as u64;
+        }
+    }
+    12
 }
 
 // ---- Hot factors
@@ -315,8 +325,8 @@ impl Run {
         Ok(self.printed_total(f, q))
     }
 
-    /// k and the balanced total; sold is S in tonnes.
-    pub fn balance(&self, fuel: u64, quantity: u64, sold: u64) -> Result<(u64, u64), u64> {
+    /// k, the digits worked and the balanced total; sold is S in tonnes.
+    pub fn balance(&self, fuel: u64, quantity: u64, sold: u64) -> Result<(u64, u64, u64), u64> {
         let (f, q) = self.place(fuel, quantity)?;
         let used = self.printed_total(f, FC) as u128;
         if used == 0 {
@@ -329,7 +339,8 @@ impl Run {
         if !(500_000..=1_500_000).contains(&k) {
             return Err(13);
         }
-        Ok((k as u64, half_up(self.printed_total(f, q) as u128 * k, 1_000_000) as u64))
+        let balanced = half_up(self.printed_total(f, q) as u128 * k, 1_000_000);
+        Ok((k as u64, digits_worked(sold as u128, used), balanced as u64))
     }
 
     /// The printed FC total for one of the three calls from fuel: 16, 11, then 15.

@@ -36,8 +36,8 @@ static void as_documented(void) {
     same(sizeof(haldurap_areas), 8 * HALDURAP_AREAS_NUMBERS, "HALDURAP_AREAS_NUMBERS", 0);
     SIZE(haldurap_run_answer, 1136), PLACE(haldurap_run_answer, number, 0), FIELD(haldurap_run_answer, run, 8, 1128);
     SIZE(haldurap_grams_answer, 16), PLACE(haldurap_grams_answer, number, 0), PLACE(haldurap_grams_answer, grams, 8);
-    SIZE(haldurap_balance_answer, 24), PLACE(haldurap_balance_answer, number, 0), PLACE(haldurap_balance_answer, k, 8);
-    PLACE(haldurap_balance_answer, grams, 16);
+    SIZE(haldurap_balance_answer, 32), PLACE(haldurap_balance_answer, number, 0), PLACE(haldurap_balance_answer, k, 8);
+    PLACE(haldurap_balance_answer, digits, 16), PLACE(haldurap_balance_answer, grams, 24);
     SIZE(haldurap_length_answer, 16), PLACE(haldurap_length_answer, number, 0), PLACE(haldurap_length_answer, bytes, 8);
     SIZE(haldurap_text_answer, 32), PLACE(haldurap_text_answer, number, 0), PLACE(haldurap_text_answer, bytes, 8);
     PLACE(haldurap_text_answer, sheet_number, 16), PLACE(haldurap_text_answer, sheet_line, 24);
@@ -207,8 +207,17 @@ static void answers(haldurap_run run) {
     g = haldurap_total(run, 4, 1);
     same(g.number, HALDURAP_FUEL_OR_QUANTITY, "grams_answer.number", 1), same(g.grams, 0, "grams_answer.grams", 1);
     haldurap_balance_answer b = haldurap_balance(run, 1, 1, 1000);
-    same(b.number, 0, "balance_answer.number", 0), same(b.k, 1039246, "balance_answer.k", 0), same(b.grams, 28197012, "balance_answer.grams", 0);
-    same(haldurap_balance(run, 1, 1, 481).number, HALDURAP_SOLD_FUEL, "balance_answer.number", 1);
+    same(b.number, 0, "balance_answer.number", 0), same(b.k, 1039246, "balance_answer.k", 0);
+    same(b.digits, 12, "balance_answer.digits", 0), same(b.grams, 28197012, "balance_answer.grams", 0);
+    b = haldurap_balance(run, 1, 1, 481);
+    same(b.number, HALDURAP_SOLD_FUEL, "balance_answer.number", 1), same(b.k, 0, "balance_answer.k", 1);
+    same(b.digits, 0, "balance_answer.digits", 1), same(b.grams, 0, "balance_answer.grams", 1);
+    /* 1 t over 1.25 t: the seventh digit is the last */
+    haldurap_run few = run;
+    memset(few.grams + 16, 0, 4 * sizeof few.grams[0]), memset(few.rests + 16, 0, 4 * sizeof few.rests[0]), few.grams[17] = 1250000;
+    b = haldurap_balance(few, 1, 1, 1);
+    same(b.number, 0, "balance_answer.number", 2), same(b.k, 800000, "balance_answer.k", 2);
+    same(b.digits, 7, "balance_answer.digits", 2), same(b.grams, 21705746, "balance_answer.grams", 2);
     uint8_t buffer[400];
     haldurap_length_answer l = haldurap_report(run, buffer, 400);
     same(l.number, 0, "length_answer.number", 0), same(l.bytes, 388, "length_answer.bytes", 0);

@@ -31,7 +31,7 @@ DOCUMENTED = {
     h.Areas: (18056, {"runs": 0, "common": 18048}),
     h.RunAnswer: (1136, {"number": 0, "run": 8}),
     h.GramsAnswer: (16, {"number": 0, "grams": 8}),
-    h.BalanceAnswer: (24, {"number": 0, "k": 8, "grams": 16}),
+    h.BalanceAnswer: (32, {"number": 0, "k": 8, "digits": 16, "grams": 24}),
     h.LengthAnswer: (16, {"number": 0, "bytes": 8}),
     h.TextAnswer: (32, {"number": 0, "bytes": 8, "sheet_number": 16, "sheet_line": 24}),
     h.ListAnswer: (1160, {"number": 0, "taken": 8, "place": 16, "refused": 24, "run": 32}),
@@ -161,8 +161,12 @@ def answers(run):
     same(a.run.x[15], 383356800, "RunAnswer")
     same(fields(h._call("total")(run, 1, 1)), (0, 27132182), "GramsAnswer")
     same(fields(h._call("total")(run, 4, 1)), (11, 0), "GramsAnswer")
-    same(fields(h._call("balance")(run, 1, 1, 1000)), (0, 1039246, 28197012), "BalanceAnswer")
-    same(fields(h._call("balance")(run, 1, 1, 481)), (13, 0, 0), "BalanceAnswer")
+    same(fields(h._call("balance")(run, 1, 1, 1000)), (0, 1039246, 12, 28197012), "BalanceAnswer")
+    same(fields(h._call("balance")(run, 1, 1, 481)), (13, 0, 0, 0), "BalanceAnswer")
+    few = h.Run.from_buffer_copy(run)
+    few.grams[16:20], few.rests[16:20] = [0, 1250000, 0, 0], [0] * 4
+    # 1 t over 1.25 t: the seventh digit is the last
+    same(fields(h._call("balance")(few, 1, 1, 1)), (0, 800000, 7, 21705746), "BalanceAnswer")
     buffer = (c_uint8 * 400)()
     same(fields(h._call("report")(run, buffer, 400)), (0, 388), "LengthAnswer")
     same(fields(h._call("report")(run, buffer, 387)), (14, 0), "LengthAnswer")

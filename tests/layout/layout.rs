@@ -55,7 +55,7 @@ fn as_documented(c: &mut Check) {
     c.same(size_of::<Areas>(), 8 * AREAS_NUMBERS, "AREAS_NUMBERS");
     struct_is!(c, RunAnswer, 1136, number 0, run 8);
     struct_is!(c, GramsAnswer, 16, number 0, grams 8);
-    struct_is!(c, BalanceAnswer, 24, number 0, k 8, grams 16);
+    struct_is!(c, BalanceAnswer, 32, number 0, k 8, digits 16, grams 24);
     struct_is!(c, LengthAnswer, 16, number 0, bytes 8);
     struct_is!(c, TextAnswer, 32, number 0, bytes 8, sheet_number 16, sheet_line 24);
     struct_is!(c, ListAnswer, 1160, number 0, taken 8, place 16, refused 24, run 32);
@@ -218,8 +218,13 @@ fn answers(c: &mut Check, run: Run) {
     c.same(a.run.x[15], 383_356_800, "RunAnswer");
     c.same(haldurap_total(run, 1, 1), GramsAnswer { number: 0, grams: 27_132_182 }, "GramsAnswer");
     c.same(haldurap_total(run, 4, 1), GramsAnswer { number: 11, grams: 0 }, "GramsAnswer");
-    c.same(haldurap_balance(run, 1, 1, 1000), BalanceAnswer { number: 0, k: 1_039_246, grams: 28_197_012 }, "BalanceAnswer");
-    c.same(haldurap_balance(run, 1, 1, 481), BalanceAnswer { number: 13, k: 0, grams: 0 }, "BalanceAnswer");
+    c.same(haldurap_balance(run, 1, 1, 1000), BalanceAnswer { number: 0, k: 1_039_246, digits: 12, grams: 28_197_012 }, "BalanceAnswer");
+    c.same(haldurap_balance(run, 1, 1, 481), BalanceAnswer { number: 13, k: 0, digits: 0, grams: 0 }, "BalanceAnswer");
+    // 1 t over 1.25 t: the seventh digit is the last
+    let mut few = run;
+    few.grams[16..20].copy_from_slice(&[0, 1_250_000, 0, 0]);
+    few.rests[16..20].fill(0);
+    c.same(haldurap_balance(few, 1, 1, 1), BalanceAnswer { number: 0, k: 800_000, digits: 7, grams: 21_705_746 }, "BalanceAnswer");
     c.same(report(run, &mut [0; 400]), LengthAnswer { number: 0, bytes: 388 }, "LengthAnswer");
     c.same(report(run, &mut [0; 387]), LengthAnswer { number: 14, bytes: 0 }, "LengthAnswer");
     let row = MapRowAnswer { number: 0, urban: 6_038_000.0, rural: 6_118_000.0, highway: 6_939_000.0, cold: 8_037_182.0 };

@@ -72,8 +72,9 @@ figures =
     ∷ figure (emissionFactor 2 0 2 100) 34695000
     -- the cold CO factor
     ∷ figure (coldFactor (emissionFactor 2 0 0 20) (openedX exampleHead 2 0)) 8037182
-    -- S 1000: k, and the balanced CO
+    -- S 1000: k, the digits worked, and the balanced CO
     ∷ figure (balanceOf exampleRun 1 1 1000 .k) 1039246
+    ∷ figure (balanceOf exampleRun 1 1 1000 .digits) 12
     ∷ figure (balanceOf exampleRun 1 1 1000 .grams) 28197012
     -- F 13,825,400 with R 1,800: CO2
     ∷ figure (co2Grams 13825400 1800) 44011000

@@ -9,6 +9,7 @@ use lib.Dec.{eqb, ltb}
 use borrow.Author.Tests.{lt-ltb, le-ltb, eq-eqb, ne-eqb, eqb-false}
 use Rattle.units.specs.declared.Refusal.{Refusal}
 use Rattle.units.specs.declared.Refusal.the-variants.{NoFuelUsed, SoldFuel}
+use Rattle.units.specs.declared.Grams.{Grams}
 use Rattle.units.specs.declared.Verdict.{Verdict}
 use Rattle.units.specs.declared.Verdict.the-variants.{Taken, Refused}
 use Rattle.units.specs.Grounds.{Ground, firstFit, outside}
@@ -16,20 +17,40 @@ use Rattle.units.specs.Rounding.{halfUp}
 use Rattle.units.specs.Refusals.{refusalNumber, verdictNumber}
 use Rattle.units.proofs.Grounds.{fit-append}
 use Rattle.units.proofs.Refusals.{number-positive, taken-number, refused-number}
-use Rattle.units.proofs.Tests.{inside-high}
+use Rattle.units.proofs.Rounds.{half-up-least}
+use Rattle.units.proofs.Tests.{inside-high, above-high}
+use Rattle.long_division.specs.declared.Ratio.{Ratio}
+use Rattle.long_division.specs.Digits.{digitsWorked, ratioOf}
 use Rattle.inventory.specs.declared.Run.{Run}
 use Rattle.inventory.specs.Printed.{printedTotal, totalGrounds}
-use Rattle.balance.specs.declared.BalanceFigures.{BalanceFigures}
 use Rattle.balance.specs.declared.Balanced.{Balanced}
 use Rattle.balance.specs.declared.Balanced.the-variants as balanced
 use Rattle.balance.specs.Balance.{printedFuel, balanceRatio, ratioInRange, balancedTotal, soldGrounds, balanceGrounds, balanceNumber, balanceOf, balancedAnswer}
 
-range-by : (b : Bool) (s f : ℕ) → outside 500000 1500000 (balanceRatio s f) ≡ b → cond b 0 (balanceRatio s f) ≤ 1500000
+-- what the inner division gives where k is out of its range, and where it is in it
+abbrev none : Ratio
+none = record { k = 0; digits = 0 }
+
+abbrev found : ℕ → ℕ → Ratio
+found s f = record { k = balanceRatio s f; digits = digitsWorked s f }
+
+range-by : (b : Bool) (s f : ℕ) → outside 500000 1500000 (balanceRatio s f) ≡ b → cond b none (found s f) .k ≤ 1500000
 range-by true s f e = omega arith
 range-by false s f e = inside-high 500000 1500000 (balanceRatio s f) e
 
-pub range-most : (s f k : ℕ) → k ≡ ratioInRange s f → k ≤ 1500000
-range-most s f k e = rw e (range-by _ s f refl)
+pub range-most : (s f : ℕ) (r : Ratio) → r ≡ ratioInRange s f → r .k ≤ 1500000
+range-most s f r e = rw e (range-by _ s f refl)
+
+-- F so far below S: k is above its range
+pub far : (s f : ℕ) → 0 < f → f < 666666 * s → none ≡ ratioInRange s f
+unfolding balanceRatio
+far s f p h =
+    let k : 1500001 ≤ halfUp (s * 1000000000000) f = half-up-least (s * 1000000000000) 1500001 f p (omega arith) in
+    rw (above-high 500000 1500000 (halfUp (s * 1000000000000) f) (omega arith))
+
+pub tested : (s f : ℕ) (r : Ratio) (b : Bool) → r ≡ ratioOf s f → outside 500000 1500000 (r .k) ≡ b → cond b none r ≡ ratioInRange s f
+unfolding balanceRatio
+tested s f r b e h = rw (← h, e)
 
 module _ (run : Run) (fuel quantity s : ℕ) where
   -- the balance's own grounds, over the printed FC total of the fuel
@@ -63,28 +84,32 @@ module _ (run : Run) (fuel quantity s : ℕ) where
       answer-sold h = refused-by SoldFuel (rw (asked-own, ne-eqb (printedFuel run (fuel - 1)) 0 some, lt-ltb 999999999 s h))
 
       module _ (few : s ≤ 999999999) where
-        out-of-range : (b : Bool) (k : ℕ) → k ≡ 0 → k ≡ cond b 0 (balanceRatio s (printedFuel run (fuel - 1))) → outside 500000 1500000 (balanceRatio s (printedFuel run (fuel - 1))) ≡ b
-            → outside 500000 1500000 (balanceRatio s (printedFuel run (fuel - 1))) ≡ true
+        abbrev f : ℕ
+        f = printedFuel run (fuel - 1)
+
+        out-of-range : (b : Bool) (r : Ratio) → r .k ≡ 0 → r ≡ cond b none (found s f) → outside 500000 1500000 (balanceRatio s f) ≡ b
+            → outside 500000 1500000 (balanceRatio s f) ≡ true
         unfolding outside
-        out-of-range true k z e h = h
-        out-of-range false k z e h = rw (← e, z)
+        out-of-range true r z e h = h
+        out-of-range false r z e h = rw (← ap (λ (x : Ratio). x .k) e, z)
 
-        pub answer-range : (k : ℕ) → k ≡ ratioInRange s (printedFuel run (fuel - 1)) → k ≡ 0 → balancedAnswer (balanced.Refused SoldFuel) ≡ balanceOf run fuel quantity s
+        pub answer-range : (r : Ratio) → r ≡ ratioInRange s f → r .k ≡ 0 → balancedAnswer (balanced.Refused SoldFuel) ≡ balanceOf run fuel quantity s
         unfolding refusalNumber soldGrounds firstFit
-        answer-range k e z =
-            refused-by SoldFuel
-            (rw (asked-own, ne-eqb (printedFuel run (fuel - 1)) 0 some, le-ltb 999999999 s few, out-of-range _ k z e refl))
+        answer-range r e z =
+            refused-by SoldFuel (rw (asked-own, ne-eqb f 0 some, le-ltb 999999999 s few, out-of-range _ r z e refl))
 
-        in-range : (b : Bool) (k : ℕ) → (k ≡ 0 → ⊥) → k ≡ cond b 0 (balanceRatio s (printedFuel run (fuel - 1))) → outside 500000 1500000 (balanceRatio s (printedFuel run (fuel - 1))) ≡ b
-            → (outside 500000 1500000 (balanceRatio s (printedFuel run (fuel - 1))) ≡ false) × (k ≡ balanceRatio s (printedFuel run (fuel - 1)))
-        in-range true k n e h = absurd (n e)
-        in-range false k n e h = (h, e)
+        in-range : (b : Bool) (r : Ratio) → (r .k ≡ 0 → ⊥) → r ≡ cond b none (found s f) → outside 500000 1500000 (balanceRatio s f) ≡ b
+            → (outside 500000 1500000 (balanceRatio s f) ≡ false) × (r ≡ found s f)
+        in-range true r n e h = absurd (n (ap (λ (x : Ratio). x .k) e))
+        in-range false r n e h = (h, e)
 
-        pub answer-given : (b : BalanceFigures) (t : ℕ) → b .k ≡ ratioInRange s (printedFuel run (fuel - 1)) → (b .k ≡ 0 → ⊥)
-            → t ≡ printedTotal run (fuel - 1) (quantity - 1) → b .grams .0 ≡ halfUp (b .k * t) 1000000
-            → balancedAnswer (balanced.Given b) ≡ balanceOf run fuel quantity s
+        pub answer-given : (r : Ratio) (g : Grams) (t : ℕ) → r ≡ ratioInRange s f → (r .k ≡ 0 → ⊥)
+            → t ≡ printedTotal run (fuel - 1) (quantity - 1) → g .0 ≡ halfUp (r .k * t) 1000000
+            → balancedAnswer (balanced.Given (record { k = r .k; digits = r .digits; grams = g })) ≡ balanceOf run fuel quantity s
         unfolding balancedAnswer balanceOf balancedTotal soldGrounds firstFit
-        answer-given b t e n et eg =
-            let p = in-range _ (b .k) n e refl in
-            let z : balanceNumber run fuel quantity s ≡ 0 = rw (asked-own, ne-eqb (printedFuel run (fuel - 1)) 0 some, le-ltb 999999999 s few, p .0) in
-            rw (z, ← p .1, ← et, eg, mul-comm (b .k) t)
+        answer-given r g t e n et eg =
+            let p = in-range _ r n e refl in
+            let z : balanceNumber run fuel quantity s ≡ 0 = rw (asked-own, ne-eqb f 0 some, le-ltb 999999999 s few, p .0) in
+            let k : r .k ≡ balanceRatio s f = ap (λ (x : Ratio). x .k) (p .1) in
+            let d : r .digits ≡ digitsWorked s f = ap (λ (x : Ratio). x .digits) (p .1) in
+            rw (z, ← k, ← d, ← et, eg, mul-comm (r .k) t)

@@ -1,4 +1,4 @@
 pub mod Behind
-pub mod Division
 pub mod Answers
 pub mod Distance
+pub mod Digits

@@ -9,6 +9,8 @@ use Rattle.units.specs.Grounds.{Ground, ground, firstFit, outside}
 use Rattle.units.specs.Rounding.{halfUp}
 use Rattle.units.specs.Refusals.{refusalNumber}
 use Rattle.units.specs.Fractions.{Fraction, over, plus, WithinDistance}
+use Rattle.long_division.specs.declared.Ratio.{Ratio}
+use Rattle.long_division.specs.Digits.{digitsWorked}
 use Rattle.inventory.specs.declared.Run.{Run}
 use Rattle.inventory.specs.Printed.{printedTotal, totalGrounds}
 use Rattle.balance.specs.declared.Balanced.{Balanced}
@@ -22,9 +24,9 @@ printedFuel run fuel = printedTotal run fuel 4
 unfoldable pub balanceRatio : ℕ → ℕ → ℕ
 balanceRatio s f = halfUp (s * 1000000000000) f
 
--- k from 500,000 to 1,500,000, and 0 for any other: what the inner division gives
-abbrev pub ratioInRange : ℕ → ℕ → ℕ
-ratioInRange s f = cond (outside 500000 1500000 (balanceRatio s f)) 0 (balanceRatio s f)
+-- k from 500,000 to 1,500,000 with the digits worked, and 0 and 0 for any other k: what the inner division gives
+abbrev pub ratioInRange : ℕ → ℕ → Ratio
+ratioInRange s f = cond (outside 500000 1500000 (balanceRatio s f)) (record { k = 0; digits = 0 }) (record { k = balanceRatio s f; digits = digitsWorked s f })
 
 -- balanced total = printed total × k / 1,000,000, half up
 unfoldable pub balancedTotal : ℕ → ℕ → ℕ
@@ -38,16 +40,17 @@ soldGrounds s f = ground 12 (eqb f 0) ∷ ground 13 (ltb 999999999 s) ∷ ground
 unfoldable pub balanceGrounds : Run → ℕ → ℕ → ℕ → List Ground
 balanceGrounds run fuel quantity s = totalGrounds run fuel quantity ++ soldGrounds s (printedFuel run (fuel - 1))
 
--- an answer: its number, 0 where it is given; k and the balanced total, 0 where it is refused
+-- an answer: its number, 0 where it is given; k, the digits worked and the balanced total, 0 where it is refused
 pub record BalanceAnswer : Type 0 where
   pub number : ℕ
   pub k : ℕ
+  pub digits : ℕ
   pub grams : ℕ
 
 -- the number and the values of each case
 unfoldable pub balancedAnswer : Balanced → BalanceAnswer
-balancedAnswer (Given b) = record { number = 0; k = b .k; grams = b .grams .0 }
-balancedAnswer (Refused r) = record { number = refusalNumber r; k = 0; grams = 0 }
+balancedAnswer (Given b) = record { number = 0; k = b .k; digits = b .digits; grams = b .grams .0 }
+balancedAnswer (Refused r) = record { number = refusalNumber r; k = 0; digits = 0; grams = 0 }
 
 unfoldable pub balanceNumber : Run → ℕ → ℕ → ℕ → ℕ
 balanceNumber run fuel quantity s = firstFit (balanceGrounds run fuel quantity s)
@@ -57,6 +60,7 @@ balanceOf run fuel quantity s =
     record {
       number = balanceNumber run fuel quantity s;
       k = cond (eqb (balanceNumber run fuel quantity s) 0) (balanceRatio s (printedFuel run (fuel - 1))) 0;
+      digits = cond (eqb (balanceNumber run fuel quantity s) 0) (digitsWorked s (printedFuel run (fuel - 1))) 0;
       grams =
           cond (eqb (balanceNumber run fuel quantity s) 0)
           (balancedTotal (printedTotal run (fuel - 1) (quantity - 1)) (balanceRatio s (printedFuel run (fuel - 1)))) 0;

@@ -3,15 +3,18 @@ ghost use mathlib.Core.Path.{_≡_};
 ghost use Prim.Native.Nat.{_-_, _≤_, _<_};
 ghost use Rattle.inventory.specs.Printed.{printedTotal};
 ghost use Rattle.balance.specs.Balance.{balancedAnswer, balanceOf, ratioInRange, BalanceNear, printedFuel};
+ghost use Rattle.balance.specs.Claim.{BalanceClaim};
 use inventory::Run;
+use long_division::Ratio;
 use units::Grams;
 use units::Refusal;
 use units::Verdict;
 
-// The balance factor in millionths, and the balanced total.
+// The balance factor in millionths, the digits worked for it, and the balanced total.
 #[repr(C)]
 pub struct BalanceFigures {
     pub k: u64,
+    pub digits: u64,
     pub grams: Grams,
 }
 
@@ -21,29 +24,20 @@ pub enum Balanced {
     Refused(Refusal),
 }
 
-// k = S × 10^12 / F half up by long division, a digit for each of the twelve noughts; 0 where it is out of range.
-fn ratio_in_range(s: u64, f: Grams) -> u64
+// k by long division and the digits it worked; both 0 where k is out of range.
+fn ratio_in_range(s: u64, f: Grams) -> Ratio
     requires { ⌜ (s ≤ 999999999) × ((0 < f .0) × (f .0 ≤ 20000000000000000)) ⌝ }
     ensures { λ r. ⌜ r ≡ ratioInRange s (f .0) ⌝ }
 {
-    let f = f.0;
-    let mut q = s / f;
-    let mut r = s % f;
-    let mut k: u64 = 0;
-    while k < 12 {
-        if 1500000 < q {
-            return 0;
-        }
-        let t = r * 10;
-        q = q * 10 + t / f;
-        r = t % f;
-        k += 1;
+    // k would be above 1,500,001; below this the division stays in 64 bits
+    if f.0 < 666666 * s {
+        return Ratio { k: 0, digits: 0 };
     }
-    let n = units::nearest_of(q, r, f);
-    if units::is_outside(500000, 1500000, n) {
-        return 0;
+    let r = long_division::ratio_of(s, f);
+    if units::is_outside(500000, 1500000, r.k) {
+        return Ratio { k: 0, digits: 0 };
     }
-    n
+    r
 }
 
 // A total balanced against sold fuel in tonnes.
@@ -65,13 +59,19 @@ pub fn balance(run: Run, fuel: u64, quantity: u64, sold: u64) -> Balanced
     if 999999999 < sold {
         return Balanced::Refused(Refusal::SoldFuel);
     }
-    let k = ratio_in_range(sold, f);
-    if k == 0 {
+    let r = ratio_in_range(sold, f);
+    if r.k == 0 {
         return Balanced::Refused(Refusal::SoldFuel);
     }
     let t = printed::total_at(run, fuel as usize - 1, quantity as usize - 1);
     Balanced::Given(BalanceFigures {
-        k,
-        grams: units::scaled(t, k, 1000000),
+        k: r.k,
+        digits: r.digits,
+        grams: units::scaled(t, r.k, 1000000),
     })
 }
+
+// Does nothing: its contract is what holds of the digits of every balance.
+pub fn balance_claim()
+    ensures { λ r. ⌜ BalanceClaim ⌝ }
+{}

@@ -9,4 +9,4 @@ abbrev pub gramsAnswer : Answer → GramsAnswer
 gramsAnswer a = record { number = a .number; grams = record { 0 = a .grams } }
 
 abbrev pub balanceAnswer : balance.BalanceAnswer → BalanceAnswer
-balanceAnswer a = record { number = a .number; k = a .k; grams = record { 0 = a .grams } }
+balanceAnswer a = record { number = a .number; k = a .k; digits = a .digits; grams = record { 0 = a .grams } }

@@ -18,11 +18,12 @@ pub struct GramsAnswer {
     pub grams: Grams,
 }
 
-// A number, 0 where it is given, the balance factor in millionths and the balanced total.
+// A number, 0 where it is given, the balance factor in millionths, the digits worked for it and the balanced total.
 #[repr(C)]
 pub struct BalanceAnswer {
     pub number: u64,
     pub k: u64,
+    pub digits: u64,
     pub grams: Grams,
 }
 
@@ -87,12 +88,14 @@ pub extern "C" fn haldurap_balance(run: Run, fuel: u64, quantity: u64, sold: u64
             BalanceAnswer {
                 number: 0,
                 k: b.k,
+                digits: b.digits,
                 grams: g,
             }
         }
         Balanced::Refused(x) => BalanceAnswer {
             number: units::refusal_number(x),
             k: 0,
+            digits: 0,
             grams: Grams(0),
         },
     }

@@ -27,7 +27,7 @@ pub extern "C" fn haldurap_layout() -> Layout
     ensures { λ r. ⌜ r ≡ layoutOf ⌝ }
 {
     Layout {
-        version: 4,
+        version: 5,
         size: 1128,
     }
 }

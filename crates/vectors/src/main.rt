@@ -43,10 +43,12 @@ fn print_balanced(p: Balanced) {
         Balanced::Given(f) => {
             print(0);
             print(f.k);
+            print(f.digits);
             print(f.grams.0);
         }
         Balanced::Refused(x) => {
             print(units::refusal_number(x));
+            print(0);
             print(0);
             print(0);
         }
