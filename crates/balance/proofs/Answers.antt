@@ -1,12 +1,12 @@
 -- The answer of a balance, ground by ground. Assumes nothing.
-use mathlib.Core.Path.{_≡_, refl, sym, ap, _∙_}
-use mathlib.Core.Bool.{Bool, true, false, not, cond}
+use mathlib.Core.Path.{_≡_, refl, ap}
+use mathlib.Core.Bool.{Bool, true, false, cond}
 use mathlib.Core.List.{List}
-use Prim.Native.Nat.{ℕ, _+_, _*_, _-_, _≤_, _<_}
+use Prim.Native.Nat.{ℕ, _*_, _-_, _≤_, _<_}
 use native.Mathlib.Nat.{mul-comm}
 use native.Mathlib.Omega.{arith}
-use lib.Dec.{eqb, ltb}
-use borrow.Author.Tests.{lt-ltb, le-ltb, eq-eqb, ne-eqb, eqb-false}
+use lib.Dec.{eqb}
+use borrow.Author.Tests.{lt-ltb, le-ltb, eq-eqb, ne-eqb}
 use Rattle.units.specs.declared.Refusal.{Refusal}
 use Rattle.units.specs.declared.Refusal.the-variants.{NoFuelUsed, SoldFuel}
 use Rattle.units.specs.declared.Grams.{Grams}
@@ -23,7 +23,6 @@ use Rattle.long_division.specs.declared.Ratio.{Ratio}
 use Rattle.long_division.specs.Digits.{digitsWorked, ratioOf}
 use Rattle.inventory.specs.declared.Run.{Run}
 use Rattle.inventory.specs.Printed.{printedTotal, totalGrounds}
-use Rattle.balance.specs.declared.Balanced.{Balanced}
 use Rattle.balance.specs.declared.Balanced.the-variants as balanced
 use Rattle.balance.specs.Balance.{printedFuel, balanceRatio, ratioInRange, balancedTotal, soldGrounds, balanceGrounds, balanceNumber, balanceOf, balancedAnswer}
 

@@ -1,12 +1,12 @@
 -- The digits of a balance: 6 to 12 where it is taken, none where it is refused. Assumes nothing.
-use mathlib.Core.Path.{_≡_, refl, sym, ap, _∙_}
+use mathlib.Core.Path.{_≡_, refl, sym, _∙_}
 use mathlib.Core.Bool.{Bool, true, false, cond}
-use Prim.Native.Nat.{ℕ, _+_, _*_, _-_, _%_, _^_, _≤_, _<_}
+use Prim.Native.Nat.{ℕ, _*_, _-_, _%_, _^_, _≤_, _<_}
 use native.Mathlib.Nat.{mul-le-mul-left, mul-le-mul-right, pow-le-pow-right, mod-eq-of-lt}
 use native.Mathlib.Omega.{arith}
 use lib.Dec.{ltb, eqb}
 use borrow.Author.Tests.{ltb-true, ltb-false, eqb-true, eqb-false, ne-eqb}
-use Rattle.units.specs.Grounds.{firstFit, outside}
+use Rattle.units.specs.Grounds.{outside}
 use Rattle.units.specs.Rounding.{halfUp}
 use Rattle.units.proofs.Rounds.{half-up-high, half-up-least}
 use Rattle.units.proofs.Tests.{inside-low, inside-high}

@@ -2,7 +2,7 @@
 use mathlib.Core.Path.{_≡_, refl, sym, ap, _∙_}
 use mathlib.Core.Bool.{Bool, true, false, cond}
 use mathlib.Core.Logic.{⊎-elim}
-use Prim.Native.Nat.{ℕ, zero, suc, _+_, _*_, _%_, _^_, _≤_, _<_, _∣_}
+use Prim.Native.Nat.{ℕ, zero, suc, _*_, _%_, _^_, _≤_, _<_}
 use native.Mathlib.Nat.{eq-or-lt-of-le, dvd-of-mod-eq-zero, mod-eq-zero-of-dvd, not-suc-le-zero}
 use native.Mathlib.Omega.{arith}
 use lib.Dec.{ltb}

@@ -1,9 +1,9 @@
 -- A long division by digits: one digit more, where it ends, and filling up with noughts. Assumes nothing.
-use mathlib.Core.Path.{_≡_, refl, sym, ap, _∙_, subst}
+use mathlib.Core.Path.{_≡_, sym, ap, _∙_}
 use mathlib.Core.Bool.{true, false}
 use mathlib.Core.Logic.{⊎-elim}
-use Prim.Native.Nat.{ℕ, zero, suc, _+_, _*_, _-_, _/_, _%_, _^_, _≤_, _<_}
-use native.Mathlib.Nat.{mul-assoc, mul-comm, add-mul, mul-right-comm, mul-le-mul-left, pow-suc, pow-succ', pow-le-pow-right, one-le-pow, div-lt-iff-lt-mul, div-eq-of-lt, div-add-mod', mul-add-div-right, mul-add-mod-self-right, mod-eq-of-lt, mod-eq-sub-div-mul, mod-lt, eq-or-lt-of-le, zero-mul, mul-one}
+use Prim.Native.Nat.{ℕ, suc, _+_, _*_, _-_, _/_, _%_, _^_, _≤_, _<_}
+use native.Mathlib.Nat.{mul-assoc, add-mul, mul-right-comm, mul-le-mul-left, pow-suc, pow-succ', pow-le-pow-right, one-le-pow, div-lt-iff-lt-mul, div-eq-of-lt, div-add-mod', mul-add-div-right, mul-add-mod-self-right, mod-eq-of-lt, mod-eq-sub-div-mul, mod-lt, eq-or-lt-of-le, zero-mul, mul-one}
 use native.Mathlib.Numerals.{add-one}
 use native.Mathlib.Omega.{arith}
 use lib.Pow.{pow-add}

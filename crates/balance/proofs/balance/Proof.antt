@@ -1,6 +1,6 @@
 -- `balance::balance` meets its contract. Assumes nothing.
-use mathlib.Core.Path.{_≡_, refl, sym, ap, _∙_}
-use Prim.Native.Nat.{_*_, _-_, _≤_}
+use mathlib.Core.Path.{sym, ap, _∙_}
+use Prim.Native.Nat.{_-_}
 use native.Mathlib.Omega.{arith}
 use Rattle.units.proofs.Refusals.{taken-number}
 use Rattle.inventory.proofs.Order.{run-limits}

@@ -1,6 +1,6 @@
 -- `long_division::filled` meets its contract. Assumes nothing.
 use mathlib.Core.Path.{_≡_, refl, sym, ap, _∙_}
-use Prim.Native.Nat.{ℕ, _+_, _*_, _-_, _^_, _≤_}
+use Prim.Native.Nat.{ℕ, _*_, _-_, _^_, _≤_}
 use native.Mathlib.Nat.{mul-one}
 use native.Mathlib.Omega.{arith}
 use Rattle.long_division.proofs.Steps.{fill-more, fill-least}
