@@ -1,6 +1,7 @@
 // The balance of a run's totals against sold fuel.
 ghost use mathlib.Core.Path.{_≡_};
 ghost use Prim.Native.Nat.{_-_, _≤_, _<_};
+ghost use Rattle.inventory.specs.Limits.{RunLimits};
 ghost use Rattle.inventory.specs.Printed.{printedTotal};
 ghost use Rattle.balance.specs.Balance.{balancedAnswer, balanceOf, ratioInRange, BalanceNear, printedFuel};
 ghost use Rattle.balance.specs.Claim.{BalanceClaim};
@@ -40,6 +41,21 @@ fn ratio_in_range(s: u64, f: Grams) -> Ratio
     r
 }
 
+// F; a case for each fuel, since a run is read where it lies only at places that are constants.
+fn fuel_used(run: Run, fuel: usize) -> Grams
+    requires { ⌜ RunLimits run ⌝ }
+    requires { ⌜ fuel < 3 ⌝ }
+    ensures { λ g. ⌜ g .0 ≡ printedFuel run fuel ⌝ }
+{
+    if fuel == 0 {
+        return printed::total_at(run, 0, 4);
+    }
+    if fuel == 1 {
+        return printed::total_at(run, 1, 4);
+    }
+    printed::total_at(run, 2, 4)
+}
+
 // A total balanced against sold fuel in tonnes.
 pub fn balance(run: Run, fuel: u64, quantity: u64, sold: u64) -> Balanced
     ensures answer { λ r. ⌜ balancedAnswer r ≡ balanceOf run fuel quantity sold ⌝ }
@@ -52,7 +68,7 @@ pub fn balance(run: Run, fuel: u64, quantity: u64, sold: u64) -> Balanced
         }
         Verdict::Taken => {}
     }
-    let f = printed::total_at(run, fuel as usize - 1, 4);
+    let f = fuel_used(run, fuel as usize - 1);
     if f.0 == 0 {
         return Balanced::Refused(Refusal::NoFuelUsed);
     }
