@@ -4,7 +4,7 @@
 
 bench/run.sh --against builds both and calls this. Each pass is a process of its own, so that where a stack or a page
 happens to lie does not stay for a whole comparison; the program that begins changes with each pass. Exits 1 where a row
-took more than a twentieth longer than before.
+took more than a twentieth longer than before, and where a balance of fewer digits took no less time.
 """
 import subprocess
 import sys
@@ -45,7 +45,10 @@ def main():
         if ours > 1.05 * was:
             slower.append(name)
         print("%-30s%12.1f%12.1f%8.3f   %12.1f%12.1f%12.1f%12.1f  %s" % (name, was, ours, ours / was, plain_was, plain, tuned_was, tuned, verdict))
-    sys.exit("slower: " + ", ".join(slower) if slower else 0)
+    balances = [times[0] for name, times in after.items() if name.startswith("balance, ")]
+    early = all(fewer < more for fewer, more in zip(balances, balances[1:]))
+    print("\nbalances of 6, 7, 9 and 12 digits after:", "fewer digits take less time" if early else "FEWER DIGITS DO NOT TAKE LESS TIME")
+    sys.exit("slower: " + ", ".join(slower) if slower else 0 if early else 1)
 
 
 if __name__ == "__main__":

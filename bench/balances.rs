@@ -1,5 +1,5 @@
 //! Balances by the digits worked: full runs whose FC of a fuel is set by hand, so that S/F ends at the digit of the row. Size of
-//! S and F, fuels and quantities are alike in all rows: what differs is the digits.
+//! S and F, fuels and quantities are alike in all rows: what differs is k and its digits.
 use super::*;
 
 #[inline(never)]
@@ -38,7 +38,7 @@ impl Balances {
             let (fuel, quantity) = (i % 3, i % 5);
             let factor = 100_000_000 / (i as u64 + 1) / part;
             let used = 10u64.pow(digits) * factor;
-            // of those with twelve digits every other one has no end
+            // of those with twelve digits every other one ends nowhere up to the twelfth
             let sold = part * factor + (digits == 12 && i % 2 == 1) as u64;
             let (mut a, mut b) = (runs.1.clone(), runs.2.clone());
             for (kind, grams) in [used / 4, used / 4, used / 4, used - used / 4 * 3].into_iter().enumerate() {
@@ -92,10 +92,8 @@ impl Best {
     }
 
     /// Whether the division stops early: each row of the archive faster than the next.
-    pub fn print(&self) {
-        let faster = self.0.is_sorted_by(|fewer, more| fewer[0] < more[0]);
-        let verdict = if faster { "fewer digits take less time" } else { "FEWER DIGITS DO NOT TAKE LESS TIME" };
-        println!("\nbalances of 6, 7, 9 and 12 digits by the archive: {verdict}");
+    pub fn stops_early(&self) -> bool {
+        self.0.is_sorted_by(|fewer, more| fewer[0] < more[0])
     }
 
     /// Measures everything once more.

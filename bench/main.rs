@@ -473,7 +473,8 @@ fn main() {
     println!("ns for one operation, the best of {passes} passes of 100 repetitions; (a) plain reference, (b) tuned by hand\n");
     println!("{:<36}{:>12}{:>12}{:>12}{:>10}{:>10}", "", "archive", "(a)", "(b)", "to (a)", "to (b)");
     b.rows().iter().for_each(Row::print);
-    b.balances.print();
+    let verdict = if b.balances.stops_early() { "fewer digits take less time" } else { "FEWER DIGITS DO NOT TAKE LESS TIME" };
+    println!("\nbalances of 6, 7, 9 and 12 digits by the archive: {verdict}");
 
     println!("\nadds by position in the run, ns an add");
     for part in 0..10 {
@@ -486,5 +487,9 @@ fn main() {
     for (n, times) in LENGTHS.into_iter().zip(b.sheets).skip(1) {
         let each: Vec<f64> = (0..3).map(|i| (times[i] - head[i]) / n as f64).collect();
         println!("{n:<36}{:>12.1}{:>12.1}{:>12.1}{:>10.2}{:>10.2}", each[0], each[1], each[2], each[0] / each[1], each[0] / each[2]);
+    }
+    // the early stop is what no contract can promise
+    if !b.balances.stops_early() {
+        std::process::exit(1);
     }
 }

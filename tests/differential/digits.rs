@@ -94,7 +94,7 @@ fn pair(r: &mut Random) -> (u64, u64) {
     }
 }
 
-/// Sums whose printed total is F, each at most the F of its own.
+/// Four sums whose printed total is F.
 fn spread(r: &mut Random, used: u64) -> [plain::Sum; 4] {
     let billion = 1_000_000_000u128;
     // half up: from half a gram below to a billionth less than that above
@@ -127,7 +127,7 @@ fn ask(held: &mut Held, ours: c::Run, run: &plain::Run, fuel: u64, quantity: u64
     }
 }
 
-/// A run with an F of each fuel, and S for each: as it was wanted, one more and one less, and the same by other quantities.
+/// A run with an F of each fuel, and S for each: as it was wanted, twice, by any two quantities, and one more or one less.
 fn ask_three(held: &mut Held, r: &mut Random, pairs: [(u64, u64); 3]) {
     let most = pairs.iter().map(|&(_, used)| used).max().unwrap();
     let least = (most / 1_000_000_000_000 + 1).min(5000);

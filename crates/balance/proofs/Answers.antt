@@ -26,14 +26,12 @@ use Rattle.inventory.specs.Printed.{printedTotal, totalGrounds}
 use Rattle.balance.specs.declared.Balanced.the-variants as balanced
 use Rattle.balance.specs.Balance.{printedFuel, balanceRatio, ratioInRange, balancedTotal, soldGrounds, balanceGrounds, balanceNumber, balanceOf, balancedAnswer}
 
--- what the inner division gives where k is out of its range, and where it is in it
+-- what the inner division gives where k is out of its range
 abbrev none : Ratio
 none = record { k = 0; digits = 0 }
 
-abbrev found : ℕ → ℕ → Ratio
-found s f = record { k = balanceRatio s f; digits = digitsWorked s f }
-
-range-by : (b : Bool) (s f : ℕ) → outside 500000 1500000 (balanceRatio s f) ≡ b → cond b none (found s f) .k ≤ 1500000
+range-by : (b : Bool) (s f : ℕ) → outside 500000 1500000 (balanceRatio s f) ≡ b → cond b none (ratioOf s f) .k ≤ 1500000
+unfolding balanceRatio
 range-by true s f e = omega arith
 range-by false s f e = inside-high 500000 1500000 (balanceRatio s f) e
 
@@ -86,9 +84,9 @@ module _ (run : Run) (fuel quantity s : ℕ) where
         abbrev f : ℕ
         f = printedFuel run (fuel - 1)
 
-        out-of-range : (b : Bool) (r : Ratio) → r .k ≡ 0 → r ≡ cond b none (found s f) → outside 500000 1500000 (balanceRatio s f) ≡ b
+        out-of-range : (b : Bool) (r : Ratio) → r .k ≡ 0 → r ≡ cond b none (ratioOf s f) → outside 500000 1500000 (balanceRatio s f) ≡ b
             → outside 500000 1500000 (balanceRatio s f) ≡ true
-        unfolding outside
+        unfolding outside balanceRatio
         out-of-range true r z e h = h
         out-of-range false r z e h = rw (← ap (λ (x : Ratio). x .k) e, z)
 
@@ -97,15 +95,15 @@ module _ (run : Run) (fuel quantity s : ℕ) where
         answer-range r e z =
             refused-by SoldFuel (rw (asked-own, ne-eqb f 0 some, le-ltb 999999999 s few, out-of-range _ r z e refl))
 
-        in-range : (b : Bool) (r : Ratio) → (r .k ≡ 0 → ⊥) → r ≡ cond b none (found s f) → outside 500000 1500000 (balanceRatio s f) ≡ b
-            → (outside 500000 1500000 (balanceRatio s f) ≡ false) × (r ≡ found s f)
+        in-range : (b : Bool) (r : Ratio) → (r .k ≡ 0 → ⊥) → r ≡ cond b none (ratioOf s f) → outside 500000 1500000 (balanceRatio s f) ≡ b
+            → (outside 500000 1500000 (balanceRatio s f) ≡ false) × (r ≡ ratioOf s f)
         in-range true r n e h = absurd (n (ap (λ (x : Ratio). x .k) e))
         in-range false r n e h = (h, e)
 
         pub answer-given : (r : Ratio) (g : Grams) (t : ℕ) → r ≡ ratioInRange s f → (r .k ≡ 0 → ⊥)
             → t ≡ printedTotal run (fuel - 1) (quantity - 1) → g .0 ≡ halfUp (r .k * t) 1000000
             → balancedAnswer (balanced.Given (record { k = r .k; digits = r .digits; grams = g })) ≡ balanceOf run fuel quantity s
-        unfolding balancedAnswer balanceOf balancedTotal soldGrounds firstFit
+        unfolding balancedAnswer balanceOf balancedTotal balanceRatio soldGrounds firstFit
         answer-given r g t e n et eg =
             let p = in-range _ r n e refl in
             let z : balanceNumber run fuel quantity s ≡ 0 = rw (asked-own, ne-eqb f 0 some, le-ltb 999999999 s few, p .0) in

@@ -40,7 +40,7 @@ module _ (s f : ℕ) (positive : 0 < f) (inside : outside 500000 1500000 (balanc
       let k : 500000 ≤ halfUp (s * 1000000000000) f = inside-low 500000 1500000 (balanceRatio s f) inside in
       omega (arith, z, half-up-high (s * 1000000000000) f, mul-le-mul-right f k)
 
-  pub six-at-least : 6 ≤ digitsWorked s f
+  six-at-least : 6 ≤ digitsWorked s f
   six-at-least = by _ refl
     where
       by : (b : Bool) → ltb (digitsWorked s f) 6 ≡ b → 6 ≤ digitsWorked s f
@@ -61,11 +61,11 @@ module _ (run : Run) (fuel quantity s : ℕ) where
   most-by true = worked s f .most
   most-by false = omega arith
 
-  pub digits-most : balanceOf run fuel quantity s .digits ≤ 12
+  digits-most : balanceOf run fuel quantity s .digits ≤ 12
   unfolding balanceOf
   digits-most = most-by (eqb (balanceNumber run fuel quantity s) 0)
 
-  pub refused-empty : (balanceOf run fuel quantity s .number ≡ 0 → ⊥)
+  refused-empty : (balanceOf run fuel quantity s .number ≡ 0 → ⊥)
       → (balanceOf run fuel quantity s .k ≡ 0) × ((balanceOf run fuel quantity s .digits ≡ 0) × (balanceOf run fuel quantity s .grams ≡ 0))
   unfolding balanceOf
   refused-empty n = rw (ne-eqb (balanceNumber run fuel quantity s) 0 n) (refl, (refl, refl))
@@ -79,11 +79,11 @@ module _ (run : Run) (fuel quantity s : ℕ) where
         let some : f ≡ 0 → ⊥ = eqb-false f 0 (own .0) in
         (omega (arith, some), own .1 .1 .0)
 
-    pub digits-least : 6 ≤ balanceOf run fuel quantity s .digits
+    digits-least : 6 ≤ balanceOf run fuel quantity s .digits
     unfolding balanceOf
     digits-least = rw given (six-at-least s f (ranges .0) (ranges .1))
 
-    pub exact-ratio : balanceOf run fuel quantity s .digits < 12 → balanceOf run fuel quantity s .k * f ≡ s * 1000000000000
+    exact-ratio : balanceOf run fuel quantity s .digits < 12 → balanceOf run fuel quantity s .k * f ≡ s * 1000000000000
     unfolding balanceOf balanceRatio
     exact-ratio = rw given (nothing-rounded s f (ranges .0))
 

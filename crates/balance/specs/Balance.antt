@@ -1,6 +1,6 @@
 -- The balance against sold fuel (SPECIFICATION, "Balance").
 -- Assumes nothing.
-use Prim.Native.Nat.{ℕ, _+_, _*_, _-_}
+use Prim.Native.Nat.{ℕ, _*_, _-_}
 use mathlib.Core.Path.{_≡_}
 use mathlib.Core.Bool.{cond}
 use mathlib.Core.List.{List, [], _∷_, _++_}
@@ -10,7 +10,7 @@ use Rattle.units.specs.Rounding.{halfUp}
 use Rattle.units.specs.Refusals.{refusalNumber}
 use Rattle.units.specs.Fractions.{Fraction, over, plus, WithinDistance}
 use Rattle.long_division.specs.declared.Ratio.{Ratio}
-use Rattle.long_division.specs.Digits.{digitsWorked}
+use Rattle.long_division.specs.Digits.{digitsWorked, ratioOf}
 use Rattle.inventory.specs.declared.Run.{Run}
 use Rattle.inventory.specs.Printed.{printedTotal, totalGrounds}
 use Rattle.balance.specs.declared.Balanced.{Balanced}
@@ -26,7 +26,7 @@ balanceRatio s f = halfUp (s * 1000000000000) f
 
 -- k from 500,000 to 1,500,000 with the digits worked, and 0 and 0 for any other k: what the inner division gives
 abbrev pub ratioInRange : ℕ → ℕ → Ratio
-ratioInRange s f = cond (outside 500000 1500000 (balanceRatio s f)) (record { k = 0; digits = 0 }) (record { k = balanceRatio s f; digits = digitsWorked s f })
+ratioInRange s f = cond (outside 500000 1500000 (balanceRatio s f)) (record { k = 0; digits = 0 }) (ratioOf s f)
 
 -- balanced total = printed total × k / 1,000,000, half up
 unfoldable pub balancedTotal : ℕ → ℕ → ℕ

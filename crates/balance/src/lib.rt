@@ -30,7 +30,7 @@ fn ratio_in_range(s: u64, f: Grams) -> Ratio
     requires { ⌜ (s ≤ 999999999) × ((0 < f .0) × (f .0 ≤ 20000000000000000)) ⌝ }
     ensures { λ r. ⌜ r ≡ ratioInRange s (f .0) ⌝ }
 {
-    // k would be above 1,500,001; below this the division stays in 64 bits
+    // k would be above 1,500,001, and a quotient on the way to it might pass 64 bits
     if f.0 < 666666 * s {
         return Ratio { k: 0, digits: 0 };
     }
@@ -41,7 +41,7 @@ fn ratio_in_range(s: u64, f: Grams) -> Ratio
     r
 }
 
-// F; a case for each fuel, since a run is read where it lies only at places that are constants.
+// F, the fuel from 0; a case for each, since at a constant place the run is not copied first.
 fn fuel_used(run: Run, fuel: usize) -> Grams
     requires { ⌜ RunLimits run ⌝ }
     requires { ⌜ fuel < 3 ⌝ }

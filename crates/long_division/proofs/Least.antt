@@ -28,7 +28,7 @@ module _ (p : ℕ → Bool) where
       (eq-or-lt-of-le (l .most)) in
       record { most = omega arith; none-before = none; passes = λ u. absurd (u refl) }
 
-  pub least : (n : ℕ) → Least p n (leastTo p n)
+  least : (n : ℕ) → Least p n (leastTo p n)
   unfolding leastTo
   least zero = record { most = omega arith; none-before = λ j h. absurd (not-suc-le-zero h); passes = λ u. absurd (u refl) }
   least (suc n) = next _ n (leastTo p n) refl (least n)
@@ -43,7 +43,7 @@ module _ (p : ℕ → Bool) where
   only-by false true n m k e f a b = absurd (before n k m b a (ltb-true k m f))
   only-by false false n m k e f a b = omega (arith, ltb-false m k e, ltb-false k m f)
 
-  pub only : (n m k : ℕ) → Least p n m → Least p n k → m ≡ k
+  only : (n m k : ℕ) → Least p n m → Least p n k → m ≡ k
   only n m k = only-by _ _ n m k refl refl
 
 -- ---- the digits worked

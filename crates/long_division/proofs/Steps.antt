@@ -3,13 +3,13 @@ use mathlib.Core.Path.{_≡_, sym, ap, _∙_}
 use mathlib.Core.Bool.{true, false}
 use mathlib.Core.Logic.{⊎-elim}
 use Prim.Native.Nat.{ℕ, suc, _+_, _*_, _-_, _/_, _%_, _^_, _≤_, _<_}
-use native.Mathlib.Nat.{mul-assoc, add-mul, mul-right-comm, mul-le-mul-left, pow-suc, pow-succ', pow-le-pow-right, one-le-pow, div-lt-iff-lt-mul, div-eq-of-lt, div-add-mod', mul-add-div-right, mul-add-mod-self-right, mod-eq-of-lt, mod-eq-sub-div-mul, mod-lt, eq-or-lt-of-le, zero-mul, mul-one}
+use native.Mathlib.Nat.{mul-assoc, add-mul, mul-right-comm, mul-le-mul-left, le-mul-of-pos-right, div-mul-le-self, pow-suc, pow-succ', pow-le-pow-right, one-le-pow, div-lt-iff-lt-mul, div-eq-of-lt, div-add-mod', mul-add-div-right, mul-add-mod-self-right, mod-eq-of-lt, mod-eq-sub-div-mul, mod-lt, eq-or-lt-of-le, zero-mul, mul-one}
 use native.Mathlib.Numerals.{add-one}
 use native.Mathlib.Omega.{arith}
 use lib.Pow.{pow-add}
 use borrow.Author.Tests.{eq-eqb, ne-eqb, eqb-true, lt-leb}
 use Rattle.units.specs.Rounding.{halfUp, nearest}
-use Rattle.units.proofs.Rounds.{half-up-nearest, digit}
+use Rattle.units.proofs.Rounds.{half-up-nearest}
 use Rattle.long_division.specs.declared.Division.{Division}
 use Rattle.long_division.specs.declared.Ratio.{Ratio}
 use Rattle.long_division.specs.Digits.{multipleAt, digitsWorked, divisionOf, ratioOf, SmallRatio}
@@ -17,11 +17,11 @@ use Rattle.long_division.proofs.Least.{worked, worked-only}
 
 -- ---- noughts
 
-pub nought-more : (s n : ℕ) → s * 10 ^ (n + 1) ≡ s * 10 ^ n * 10
+nought-more : (s n : ℕ) → s * 10 ^ (n + 1) ≡ s * 10 ^ n * 10
 nought-more s n = ap (λ (m : ℕ). s * 10 ^ m) (add-one n) ∙ ap (λ (x : ℕ). s * x) (pow-suc 10 n) ∙ sym (mul-assoc s (10 ^ n) 10)
 
 -- those up to twelve, behind the n that are there
-pub noughts-left : (s n : ℕ) → n ≤ 12 → s * 1000000000000 ≡ s * 10 ^ n * 10 ^ (12 - n)
+noughts-left : (s n : ℕ) → n ≤ 12 → s * 1000000000000 ≡ s * 10 ^ n * 10 ^ (12 - n)
 noughts-left s n h =
     let e : n + (12 - n) ≡ 12 = omega arith in
     sym (mul-assoc s (10 ^ n) (10 ^ (12 - n)) ∙ ap (λ (x : ℕ). s * x) (sym (pow-add 10 n (12 - n)) ∙ ap (λ (m : ℕ). 10 ^ m) e))
@@ -33,23 +33,23 @@ fill-more k n h =
     mul-assoc k 10 (10 ^ (12 - (n + 1))) ∙ ap (λ (x : ℕ). k * x) (sym (pow-succ' 10 (12 - (n + 1))) ∙ ap (λ (m : ℕ). 10 ^ m) e)
 
 pub fill-least : (k n : ℕ) → k ≤ k * 10 ^ n
-fill-least k n = omega (arith, mul-le-mul-left k (one-le-pow n 10 (omega arith)), mul-one k)
+fill-least k n = le-mul-of-pos-right k (one-le-pow n 10 (omega arith))
 
 -- ---- quotient and remainder
 
 module _ (x q r f : ℕ) (e : x ≡ q * f + r) (h : r < f) where
-  pub quotient-is : q ≡ x / f
+  quotient-is : q ≡ x / f
   quotient-is = let p : 0 < f = omega arith in sym (ap (λ (y : ℕ). y / f) e ∙ mul-add-div-right p q r ∙ omega (arith, div-eq-of-lt h))
 
-  pub remainder-is : r ≡ x % f
+  remainder-is : r ≡ x % f
   remainder-is = sym (ap (λ (y : ℕ). y % f) e ∙ mul-add-mod-self-right q f r ∙ mod-eq-of-lt h)
 
 -- what is left of t when f was taken out as often as it goes in
 module _ (t d f : ℕ) (e : d ≡ t / f) where
   pub taken-most : d * f ≤ t
-  taken-most = omega (arith, ap (λ (x : ℕ). x * f) e, div-add-mod' t f)
+  taken-most = rw e (div-mul-le-self t f)
 
-  pub left-is : t - d * f ≡ t % f
+  left-is : t - d * f ≡ t % f
   left-is = ap (λ (x : ℕ). t - x * f) e ∙ sym (mod-eq-sub-div-mul t f)
 
   pub left-below : 0 < f → t - d * f < f
@@ -59,10 +59,13 @@ module _ (t d f : ℕ) (e : d ≡ t / f) where
   whole-and-left = omega (arith, taken-most)
 
 -- one digit more
-pub digit-more : (s f n q r d : ℕ) → s * 10 ^ n ≡ q * f + r → r < f → d ≡ r * 10 / f → s * 10 ^ (n + 1) ≡ (q * 10 + d) * f + (r * 10 - d * f)
-digit-more s f n q r d e h i =
-    nought-more s n ∙ digit (s * 10 ^ n) q r f e h ∙
-    omega (arith, left-is (r * 10) d f i, ap (λ (x : ℕ). (q * 10 + x) * f) i)
+pub digit-more : (s f n q r d : ℕ) → s * 10 ^ n ≡ q * f + r → d ≡ r * 10 / f → s * 10 ^ (n + 1) ≡ (q * 10 + d) * f + (r * 10 - d * f)
+digit-more s f n q r d e i =
+    nought-more s n ∙
+    omega (arith, e, taken-most (r * 10) d f i, add-mul (q * 10) d f, mul-right-comm q 10 f)
+
+pub digit-below : (r f d : ℕ) → r < f → d ≡ r * 10 / f → d < 10
+digit-below r f d h e = let p : 0 < f = omega arith in let l : r * 10 < 10 * f = omega arith in omega (arith, e, div-lt-iff-lt-mul {k = f} {x = r * 10} {y = 10} p .1 l)
 
 -- every quotient stays small
 pub quotient-most : (s f n q r : ℕ) → SmallRatio s f → n ≤ 12 → s * 10 ^ n ≡ q * f + r → r < f → q ≤ 1500001

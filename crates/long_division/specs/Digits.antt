@@ -33,7 +33,7 @@ divisionOf s f =
 abbrev pub ratioOf : ℕ → ℕ → Ratio
 ratioOf s f = record { k = halfUp (s * 1000000000000) f; digits = digitsWorked s f }
 
--- F is so large beside S that no quotient with up to twelve digits is above 1,500,001
+-- F is at most the grams of a run, and so large beside S that no quotient of up to twelve digits is above 1,500,001
 pub record SmallRatio (s f : ℕ) : Type 0 where
   pub divisor : 0 < f
   pub grams : f ≤ 20000000000000000

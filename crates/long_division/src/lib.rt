@@ -6,10 +6,10 @@ ghost use Rattle.long_division.specs.Claim.{DigitsClaim};
 use units::Grams;
 
 // Where a division has ended: S × 10^digits over F.
-pub struct Division {
-    pub quotient: u64,
-    pub remainder: u64,
-    pub digits: u64,
+struct Division {
+    quotient: u64,
+    remainder: u64,
+    digits: u64,
 }
 
 // A quotient in units of 10^-12, and the digits worked.
@@ -19,10 +19,11 @@ pub struct Ratio {
 }
 
 // How often f goes into t: a comparison tells 0 sooner than a division does, and the first digits of a small ratio are 0.
-fn times_in(t: u64, f: u64) -> u64
-    requires { ⌜ 0 < f ⌝ }
-    ensures { λ d. ⌜ d ≡ t / f ⌝ }
+fn times_in(t: u64, f: Grams) -> u64
+    requires { ⌜ 0 < f .0 ⌝ }
+    ensures { λ d. ⌜ d ≡ t / f .0 ⌝ }
 {
+    let f = f.0;
     if t < f {
         return 0;
     }
@@ -34,9 +35,8 @@ fn divided(s: u64, f: Grams) -> Division
     requires { ⌜ SmallRatio s (f .0) ⌝ }
     ensures { λ d. ⌜ d ≡ divisionOf s (f .0) ⌝ }
 {
-    let f = f.0;
     let mut q = times_in(s, f);
-    let mut r = s - q * f;
+    let mut r = s - q * f.0;
     let mut n: u64 = 0;
     while n < 12 {
         if r == 0 {
@@ -49,7 +49,7 @@ fn divided(s: u64, f: Grams) -> Division
         let t = r * 10;
         let d = times_in(t, f);
         q = q * 10 + d;
-        r = t - d * f;
+        r = t - d * f.0;
         n += 1;
     }
     Division {
