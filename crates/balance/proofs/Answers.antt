@@ -45,6 +45,7 @@ far s f p h =
     let k : 1500001 ≤ halfUp (s * 1000000000000) f = half-up-least (s * 1000000000000) 1500001 f p (omega arith) in
     rw (above-high 500000 1500000 (halfUp (s * 1000000000000) f) (omega arith))
 
+-- k tested behind the division
 pub tested : (s f : ℕ) (r : Ratio) (b : Bool) → r ≡ ratioOf s f → outside 500000 1500000 (r .k) ≡ b → cond b none r ≡ ratioInRange s f
 unfolding balanceRatio
 tested s f r b e h = rw (← h, e)

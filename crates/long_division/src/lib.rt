@@ -12,7 +12,7 @@ struct Division {
     digits: u64,
 }
 
-// A quotient in units of 10^-12, and the digits worked.
+// S × 10^12 / F, half up, and the digits worked.
 pub struct Ratio {
     pub k: u64,
     pub digits: u64,

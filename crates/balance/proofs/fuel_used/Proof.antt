@@ -1,6 +1,5 @@
 -- `balance::fuel_used` meets its contract. Assumes nothing.
 use mathlib.Core.Path.{_≡_, sym, ap, _∙_}
-use Prim.Native.Nat.{ℕ, _<_}
 use native.Mathlib.Omega.{arith}
 use Rattle.balance.specs.Balance.{printedFuel}
 use borrow.Author.Needs.{needs}
