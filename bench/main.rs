@@ -5,15 +5,16 @@
 //!     bench [PASSES]
 //!     bench --rows     one pass, as lines `name, archive, (a), (b)` between tabs, for bench/against.py
 //!
-//! With `--cfg no_digits` it is linked with an archive up to layout 4, in whose balances the digits worked are not told: the
-//! declarations are others (bench/run.sh makes them), and the digits are not compared. With `--cfg no_areas` as well it is one up
-//! to layout 3, which has no calls of areas: their rows are left out. With `--cfg layout_2` as well it is one of layout 2, in
-//! whose runs CO of class 3 has no X of its own: what goes by that X is not compared.
+//! With `--cfg no_days` it is linked with an archive up to layout 5, whose heads have no dates: the declarations are others
+//! (bench/run.sh makes them), and the row of dated heads is left out. With `--cfg no_digits` as well it is one up to layout 4, in
+//! whose balances the digits worked are not told: they are not compared. With `--cfg no_areas` as well it is one up to layout 3,
+//! which has no calls of areas: their rows are left out. With `--cfg layout_2` as well it is one of layout 2, in whose runs CO of
+//! class 3 has no X of its own: what goes by that X is not compared.
 #[cfg(not(no_areas))]
 mod areas;
 mod balances;
-#[cfg_attr(not(no_digits), path = "../include/haldurap.rs")]
-#[cfg_attr(no_digits, path = "../target/haldurap_other.rs")]
+#[cfg_attr(not(no_days), path = "../include/haldurap.rs")]
+#[cfg_attr(no_days, path = "../target/haldurap_other.rs")]
 mod haldurap;
 #[path = "../tests/differential/random.rs"]
 mod random;
@@ -28,6 +29,23 @@ use std::hint::black_box;
 use std::time::Instant;
 
 // ---- The same inputs for all three
+
+fn c_head(h: &plain::Head) -> c::Head {
+    #[cfg(not(no_days))]
+    let [first, last] = h.days.unwrap_or([0; 2]);
+    c::Head {
+        trip: h.trip,
+        temps: h.temps,
+        #[cfg(not(no_days))]
+        first,
+        #[cfg(not(no_days))]
+        last,
+    }
+}
+
+fn tuned_head(h: &plain::Head) -> tuned::Head {
+    tuned::Head { trip: h.trip, temps: h.temps, days: h.days }
+}
 
 fn c_record(r: &plain::Record) -> c::Record {
     let ([u, v, w], [a, b, d]) = (r.shares, r.speeds);
@@ -55,12 +73,12 @@ struct Inputs {
 
 fn inputs() -> Inputs {
     let mut r = Random(7);
-    let heads: Vec<_> = (0..64).map(|_| random::good_head(&mut r)).collect();
+    let heads: Vec<_> = (0..64).map(|_| random::undated_head(&mut r)).collect();
     // whole fleets with kilometres of every size, all classes, and no record that is refused
     let records: Vec<_> = (0..5000).map(|_| random::good_record(&mut r)).collect();
     Inputs {
-        c_heads: heads.iter().map(|h| c::Head { trip: h.trip, temps: h.temps }).collect(),
-        tuned_heads: heads.iter().map(|h| tuned::Head { trip: h.trip, temps: h.temps }).collect(),
+        c_heads: heads.iter().map(c_head).collect(),
+        tuned_heads: heads.iter().map(tuned_head).collect(),
         c_records: records.iter().map(c_record).collect(),
         tuned_records: records.iter().map(tuned_record).collect(),
         heads,
@@ -285,6 +303,42 @@ fn first_adds(inputs: &Inputs, repetitions: usize) -> [f64; 3] {
     best
 }
 
+/// Opens 64 heads, whose runs must be the same: ns for one.
+fn opening(heads: &[plain::Head], repetitions: usize) -> [f64; 3] {
+    let ours: Vec<c::Head> = heads.iter().map(c_head).collect();
+    let b: Vec<tuned::Head> = heads.iter().map(tuned_head).collect();
+    let mut run = tuned::ZERO;
+    for i in 0..heads.len() {
+        let answer = c::haldurap_open(ours[i]);
+        assert_eq!([answer.number, tuned_open(&b[i], &mut run)], [0; 2]);
+        assert!(same_runs(&answer.run, &plain_open(&heads[i]), &run), "opened runs differ: {:?}", heads[i]);
+    }
+    let times = best(repetitions, [
+        &mut || ours.iter().for_each(|h| { let _ = black_box(c::haldurap_open(*black_box(h))); }),
+        &mut || heads.iter().for_each(|h| { black_box(plain_open(black_box(h))); }),
+        &mut || b.iter().for_each(|h| { black_box(tuned_open(black_box(h), black_box(&mut run))); }),
+    ]);
+    times.map(|t| t / heads.len() as f64)
+}
+
+/// Dated heads: whole years, single days and what is between.
+#[cfg(not(no_days))]
+fn dated_heads() -> Vec<plain::Head> {
+    let mut r = Random(366);
+    (0..64).map(|_| random::dated_head(&mut r)).collect()
+}
+
+/// Sheets of dated heads, which are not timed: the same texts of all three.
+#[cfg(not(no_days))]
+fn compare_dated_sheets(inputs: &Inputs) {
+    let [mut buffer, mut buffer_a, mut buffer_b] = [[0u8; c::REPORT_BYTES]; 3];
+    for (head, record) in dated_heads().iter().zip(&inputs.records) {
+        let text = [random::head_line(head), random::record_line(record)].concat();
+        let lengths = [our_sheet(&text, &mut buffer), plain_sheet(&text, &mut buffer_a), tuned_sheet(&text, &mut buffer_b)];
+        assert!(same_texts(lengths, &buffer, &buffer_a, &buffer_b), "sheets differ: {head:?}");
+    }
+}
+
 /// Whether three runs are the same; a run of layout 2 has no x[15], and another cold sum of gasoline CO (place 3).
 fn same_runs(ours: &c::Run, a: &plain::Run, b: &tuned::Run) -> bool {
     let sums = a.sums.as_flattened().as_flattened();
@@ -320,8 +374,8 @@ fn keep<const N: usize>(kept: &mut [f64; N], times: [f64; N]) {
 
 const LENGTHS: [usize; 10] = [0, 1, 10, 50, 100, 200, 400, 800, 1200, 1596];
 
-/// The best times: of sheets by length, adds by position, the first add, a total, a report, opening, the test of order, a record
-/// of a list, balances by digits, the calls of areas.
+/// The best times: of sheets by length, adds by position, the first add, a total, a report, opening without and with dates, the
+/// test of order, a record of a list, balances by digits, the calls of areas.
 struct Best {
     sheets: [[f64; 3]; LENGTHS.len()],
     adds: [[f64; 10]; 3],
@@ -329,6 +383,8 @@ struct Best {
     total: [f64; 3],
     report: [f64; 3],
     open: [f64; 3],
+    #[cfg(not(no_days))]
+    dated: [f64; 3],
     order: [f64; 3],
     list: [f64; 3],
     balances: balances::Best,
@@ -352,6 +408,8 @@ impl Best {
             row("order of a full run", self.order),
             row("list of 5,000, each record", self.list),
         ];
+        #[cfg(not(no_days))]
+        rows.insert(8, row("opening, dated", self.dated));
         rows.extend(self.balances.rows());
         #[cfg(not(no_areas))]
         rows.extend(self.areas.rows());
@@ -401,13 +459,9 @@ fn pass(best_of: &mut Best, inputs: &Inputs, runs: &(c::Run, plain::Run, tuned::
     ]);
     keep(&mut best_of.report, times);
 
-    let mut fresh = tuned::ZERO;
-    let times = best(repetitions, [
-        &mut || inputs.c_heads.iter().for_each(|h| { let _ = black_box(c::haldurap_open(*black_box(h))); }),
-        &mut || inputs.heads.iter().for_each(|h| { black_box(plain_open(black_box(h))); }),
-        &mut || inputs.tuned_heads.iter().for_each(|h| { black_box(tuned_open(black_box(h), black_box(&mut fresh))); }),
-    ]);
-    keep(&mut best_of.open, times.map(|t| t / 64.0));
+    keep(&mut best_of.open, opening(&inputs.heads, repetitions));
+    #[cfg(not(no_days))]
+    keep(&mut best_of.dated, opening(&dated_heads(), repetitions));
 
     let times = best(repetitions, [
         &mut || { black_box(c::haldurap_in_order(*black_box(ours))); },
@@ -445,6 +499,8 @@ fn main() {
     let passes: usize = if rows_alone { 1 } else { argument.map_or(6, |n| n.parse().expect("PASSES")) };
     let inputs = inputs();
     let runs = full_runs(&inputs);
+    #[cfg(not(no_days))]
+    compare_dated_sheets(&inputs);
     let before = load();
     let mut b = Best {
         sheets: [[f64::MAX; 3]; LENGTHS.len()],
@@ -453,6 +509,8 @@ fn main() {
         total: [f64::MAX; 3],
         report: [f64::MAX; 3],
         open: [f64::MAX; 3],
+        #[cfg(not(no_days))]
+        dated: [f64::MAX; 3],
         order: [f64::MAX; 3],
         list: [f64::MAX; 3],
         balances: balances::Best::new(),

@@ -19,11 +19,15 @@ echo '#include <stdio.h>
 int main(void) { printf("%d", (int)haldurap_layout().version); }' | gcc -Iinclude -o target/layout_of -x c - -x none "$other"
 layout=$(target/layout_of)
 case $layout in
-[2-5]) ;;
-*) echo "$other has layout $layout; only 2 to 5 can be compared"; exit 1 ;;
+[2-6]) ;;
+*) echo "$other has layout $layout; only 2 to 6 can be compared"; exit 1 ;;
 esac
-# what an earlier one does not have: up to layout 4 the digits of a balance, up to 3 areas, and in a run of layout 2 x[15]
+# what an earlier one does not have: up to layout 5 the days of a head, up to 4 the digits of a balance, up to 3 areas, and in a run
+# of layout 2 x[15]
 cfgs=() edits=()
+if [ "$layout" -le 5 ]; then
+    cfgs+=(--cfg no_days) edits+=(-e 's/, pub first: u64, pub last: u64 }/ }/')
+fi
 if [ "$layout" -le 4 ]; then
     cfgs+=(--cfg no_digits) edits+=(-e 's/pub k: u64, pub digits: u64/pub k: u64/')
 fi

@@ -24,6 +24,8 @@ pub const ZERO: Run = Run { trip: 0, x: [0; 16], count: 0, km: [0; 3], grams: [0
 pub struct Head {
     pub trip: u64,
     pub temps: [i64; 12],
+    /// The first and the last day, where the head is dated.
+    pub days: Option<[u64; 2]>,
 }
 
 pub struct Record {
@@ -64,6 +66,58 @@ fn x_of(x: &[u64; 16], class: usize) -> [u64; 5] {
     [if class == 2 { x[15] } else { x[at] }, x[at + 1], x[at + 2], x[at + 3], x[at + 4]]
 }
 
+/// The lengths of the months, in a leap year too.
+static MONTHS: [[u64; 12]; 2] = [[31, 28, 31, 30, 31, 30, 31, 31, 30, 31, 30, 31], [31, 29, 31, 30, 31, 30, 31, 31, 30, 31, 30, 31]];
+
+/// From 1980 to 2100 every fourth year but the last.
+#[inline]
+fn months_of(year: u64) -> &'static [u64; 12] {
+    &MONTHS[(year % 4 == 0 && year != 2100) as usize]
+}
+
+/// The year, the month from 0 and the day of a number that is a day.
+#[inline]
+fn day_of(written: u64) -> Option<(u64, usize, u64)> {
+    let (year, rest) = (written / 10_000, written % 10_000);
+    let (month, day) = ((rest / 100).wrapping_sub(1) as usize, rest % 100);
+    if year.wrapping_sub(1980) > 120 || month > 11 || day.wrapping_sub(1) >= months_of(year)[month] {
+        return None;
+    }
+    Some((year, month, day))
+}
+
+/// The sums of B × Q by fuel and quantity, months added one by one with their weight.
+struct Sums {
+    start: i64,
+    slope: i64,
+    sums: [i64; 15],
+}
+
+impl Sums {
+    #[inline]
+    fn of(trip: u64) -> Sums {
+        let l = trip as i64;
+        Sums { start: 64_700_000 - 250_000 * l, slope: 97_400 - 385 * l, sums: [0; 15] }
+    }
+
+    #[inline]
+    fn add(&mut self, t: i64, weight: u64) {
+        let b = (self.start - self.slope * t) * weight as i64;
+        for i in 0..15 {
+            self.sums[i] += b * (RATIOS[i][0] - RATIOS[i][1] * t).max(0);
+        }
+    }
+
+    /// X of these sums and of all weights together, half up.
+    #[inline(always)]
+    fn put(&self, whole: u64, x: &mut [u64; 16]) {
+        for i in 0..15 {
+            x[i] = (self.sums[i] as u64 + 500 * whole) / (1000 * whole);
+        }
+        x[15] = (self.sums[0] as u64 * 72 + 50_000 * whole) / (100_000 * whole);
+    }
+}
+
 /// Opens a run in place, which is all zeros before; a refused head leaves it so.
 pub fn open(head: &Head, run: &mut Run) -> u64 {
     if head.trip < 10 || 200 < head.trip {
@@ -74,19 +128,31 @@ pub fn open(head: &Head, run: &mut Run) -> u64 {
             return 2;
         }
     }
-    let l = head.trip as i64;
-    let (start, slope) = (64_700_000 - 250_000 * l, 97_400 - 385 * l);
-    let mut sums = [0i64; 15];
-    for &t in &head.temps {
-        let b = start - slope * t;
-        for i in 0..15 {
-            sums[i] += b * (RATIOS[i][0] - RATIOS[i][1] * t).max(0);
+    let mut sums = Sums::of(head.trip);
+    match head.days {
+        None => {
+            for &t in &head.temps {
+                sums.add(t, 1);
+            }
+            sums.put(12, &mut run.x);
+        }
+        Some([first, last]) => {
+            let (Some((year, from, first)), Some((other, to, last))) = (day_of(first), day_of(last)) else { return 19 };
+            if year != other || to < from || (to == from && last < first) {
+                return 20;
+            }
+            let months = months_of(year);
+            let mut whole = 0;
+            // all of the months between, without what is before the first day and behind the last
+            for month in from..=to {
+                let before = if month == from { first - 1 } else { 0 };
+                let end = if month == to { last } else { months[month] };
+                sums.add(head.temps[month], end - before);
+                whole += end - before;
+            }
+            sums.put(whole, &mut run.x);
         }
     }
-    for i in 0..15 {
-        run.x[i] = (sums[i] as u64 + 6_000) / 12_000;
-    }
-    run.x[15] = (sums[0] as u64 * 72 + 600_000) / 1_200_000;
     run.trip = head.trip;
     0
 }
@@ -494,10 +560,14 @@ fn take_signed(field: &[u8]) -> Option<i64> {
     }
 }
 
+/// A head of 65 bytes, or of 83 with dates.
 fn take_head(line: &[u8]) -> Option<Head> {
-    let mut head = Head { trip: take_number(&line[..5])?, temps: [0; 12] };
+    let mut head = Head { trip: take_number(&line[..5])?, temps: [0; 12], days: None };
     for i in 0..12 {
         head.temps[i] = take_signed(&line[5 + i * 5..10 + i * 5])?;
+    }
+    if line.len() == 83 {
+        head.days = Some([take_number(&line[65..74])?, take_number(&line[74..])?]);
     }
     Some(head)
 }
@@ -515,15 +585,18 @@ fn take_record(line: &[u8; 41]) -> Option<Record> {
 
 /// Reads a sheet into a run of zeros: the number and its line. A refused sheet leaves the run half filled.
 pub fn sheet(text: &[u8], run: &mut Run) -> (u64, usize) {
-    if text.len() < 66 || text[65] != b'\n' {
+    // an LF before the one that is looked at is no digit of a field
+    let ends = |end: usize| text.get(end) == Some(&b'\n');
+    let end = if ends(65) { 65 } else { 83 };
+    if !ends(end) {
         return (10, 1);
     }
-    let Some(head) = take_head(&text[..65]) else { return (10, 1) };
+    let Some(head) = take_head(&text[..end]) else { return (10, 1) };
     let number = open(&head, run);
     if number != 0 {
         return (number, 1);
     }
-    let lines = text[66..].chunks_exact(41);
+    let lines = text[end + 1..].chunks_exact(41);
     let mut n = 2;
     let rest = lines.remainder().len();
     for line in lines {

@@ -11,6 +11,7 @@ FLEET = [
     (6, 2500, 18000, (30, 45, 25), (25, 70, 110)),
     (4, 300, 12000, (55, 30, 15), (30, 65, 95)),
 ]
+PASS = (186, (-78, -75, -48, -14, 36, 72, 98, 95, 61, 22, -34, -65))
 WRONG = [FLEET[0], (6, 2500, 18000, (30, 45, 25), (25, 70, 131)), FLEET[2]]
 
 
@@ -41,6 +42,10 @@ for fuel, sold in ((1, 1000), (2, 4400), (3, 210)):
             print("fuel %d: %d t sold, k %d in %d digits" % (fuel, sold, k, digits))
         print("  %s %d g" % (reference.NAMES[quantity], grams))
 print("CO2 of gasoline: %d g" % reference.co2(run, 1, 1800)[1])
+for label, head in (("15 May to 20 October 2026", (*PASS, 20260515, 20261020)), ("without dates", PASS)):
+    number, taken, _, _, listed = reference.add_list(head, numbers(FLEET))
+    assert (number, taken) == (0, 3)
+    print("CO from cold starts, %s: %d g" % (label, reference.kind_total(listed, 1, reference.CO, "cold")[1]))
 number, run = reference.add(run, WRONG[1])
 print("131 km/h, added: refused with %d, records: %d" % (number, run.count))
 number, taken, place, refused, listed = reference.add_list(HEAD, numbers(WRONG))

@@ -1,4 +1,5 @@
-/* Opens a run, adds a fleet, prints the report, the same from a sheet and from a list, and balances it against sold fuel.
+/* Opens a run, adds a fleet, prints the report, the same from a sheet and from a list, balances it against sold fuel, and asks for a
+   part of a year.
    Build it with examples/run.sh, or:
        gcc -O2 -Wall -Iinclude -o target/fleet_c examples/fleet.c target/libhaldurap.a */
 #include <inttypes.h>
@@ -9,7 +10,7 @@
 #include "haldurap.h"
 
 enum { PARTS = 3 };
-static const haldurap_head head = {120, {100, 100, 100, 100, 100, 100, 100, 100, 100, 100, 100, 100}};
+static const haldurap_head head = {120, {100, 100, 100, 100, 100, 100, 100, 100, 100, 100, 100, 100}, 0, 0};
 static const haldurap_record fleet[PARTS] = {
     /* class, vehicles, km, shares, speeds */
     {2, 1000, 10000, {40, 40, 20}, {20, 60, 100}},
@@ -41,6 +42,15 @@ static void write_sheet(char sheet[SHEET_BYTES + 1], const haldurap_record *reco
                          r.vehicle_class, r.vehicles, r.km, r.shares.urban, r.shares.rural, r.shares.highway,
                          r.speeds.urban, r.speeds.rural, r.speeds.highway);
     }
+}
+
+/* CO of gasoline from cold starts, grams, of the fleet under another head. */
+static uint64_t cold_co(haldurap_head other) {
+    haldurap_list_answer listed = haldurap_add_list(other, (const uint64_t *)fleet, PARTS * HALDURAP_RECORD_NUMBERS);
+    stop_if(listed.number, "add_list");
+    haldurap_grams_answer cold = haldurap_cold(listed.run, HALDURAP_GASOLINE, HALDURAP_CO);
+    stop_if(cold.number, "cold");
+    return cold.grams;
 }
 
 int main(void) {
@@ -95,6 +105,13 @@ int main(void) {
     haldurap_grams_answer co2 = haldurap_co2(run, HALDURAP_GASOLINE, 1800);
     stop_if(co2.number, "co2");
     printf("CO2 of gasoline: %" PRIu64 " g\n", co2.grams);
+
+    /* A mountain pass that is open from 15 May to 20 October 2026: cold starts go by the temperatures of these days, and without
+       dates by those of all months. */
+    haldurap_head pass = {186, {-78, -75, -48, -14, 36, 72, 98, 95, 61, 22, -34, -65}, 20260515, 20261020};
+    printf("CO from cold starts, 15 May to 20 October 2026: %" PRIu64 " g\n", cold_co(pass));
+    pass.first = pass.last = 0;
+    printf("CO from cold starts, without dates: %" PRIu64 " g\n", cold_co(pass));
 
     /* A refusal is a number. A refused add gives the run as it was, a list passes the record over, a sheet is sent back. */
     haldurap_record wrong[PARTS];

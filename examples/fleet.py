@@ -1,5 +1,5 @@
-"""Opens a run, adds a fleet, prints the report, the same from a sheet and from a list, and balances it against sold fuel:
-python3 examples/fleet.py."""
+"""Opens a run, adds a fleet, prints the report, the same from a sheet and from a list, balances it against sold fuel, and asks for a
+part of a year: python3 examples/fleet.py."""
 import sys
 
 import haldurap
@@ -26,6 +26,11 @@ def sheet(fleet):
     return text.encode("ascii")
 
 
+def cold_co(head):
+    """CO of gasoline from cold starts, grams, of the fleet under a head."""
+    return haldurap.cold(haldurap.add_list(head, FLEET).run, haldurap.GASOLINE, haldurap.CO)
+
+
 def main():
     run = haldurap.open_run(HEAD)
     for part in FLEET:
@@ -47,6 +52,11 @@ def main():
             print("  %s %d g" % (name, b.grams))
     # 1.8 hydrogen per carbon.
     print("CO2 of gasoline: %d g" % haldurap.co2(run, haldurap.GASOLINE, 1800))
+    # A mountain pass that is open from 15 May to 20 October 2026: cold starts go by the temperatures of these days, and without
+    # dates by those of all months.
+    temps = [-78, -75, -48, -14, 36, 72, 98, 95, 61, 22, -34, -65]
+    print("CO from cold starts, 15 May to 20 October 2026: %d g" % cold_co(haldurap.head(186, temps, 20260515, 20261020)))
+    print("CO from cold starts, without dates: %d g" % cold_co(haldurap.head(186, temps)))
     # A refused add raises Refused and leaves the run as it was, a list passes the record over, a sheet is sent back.
     wrong = [FLEET[0], haldurap.record(6, 2500, 18000, (30, 45, 25), (25, 70, 131)), FLEET[2]]
     try:

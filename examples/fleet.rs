@@ -1,4 +1,5 @@
-//! Opens a run, adds a fleet, prints the report, the same from a sheet and from a list, and balances it against sold fuel.
+//! Opens a run, adds a fleet, prints the report, the same from a sheet and from a list, balances it against sold fuel, and asks for a
+//! part of a year.
 //! Build it with examples/run.sh, or:
 //!     rustc --edition 2024 -O -o target/fleet_rust examples/fleet.rs -C link-arg=target/libhaldurap.a
 #[path = "../include/haldurap.rs"]
@@ -40,13 +41,21 @@ fn list_of(fleet: &[Record]) -> Vec<u64> {
     fleet.iter().flat_map(|r| r.numbers()).collect()
 }
 
+/// CO of gasoline from cold starts, grams, of a fleet under a head.
+fn cold_co(head: Head, fleet: &[Record]) -> Result<u64, String> {
+    let listed = add_list(head, &list_of(fleet));
+    taken(listed.number, ())?;
+    let cold = haldurap_cold(listed.run, GASOLINE, CO);
+    taken(cold.number, cold.grams)
+}
+
 fn main() -> Result<(), String> {
     let layout = haldurap_layout();
     if layout.version != LAYOUT || layout.size != size_of::<Run>() as u64 {
         return Err("haldurap.rs does not fit this archive".into());
     }
 
-    let head = Head { trip: 120, temps: [100; 12] };
+    let head = Head { trip: 120, temps: [100; 12], first: 0, last: 0 };
     let opened = haldurap_open(head);
     let mut run = taken(opened.number, opened.run)?;
 
@@ -93,6 +102,13 @@ fn main() -> Result<(), String> {
     // 1.8 hydrogen per carbon.
     let co2 = haldurap_co2(run, GASOLINE, 1800);
     println!("CO2 of gasoline: {} g", taken(co2.number, co2.grams)?);
+
+    // A mountain pass that is open from 15 May to 20 October 2026: cold starts go by the temperatures of these days, and without
+    // dates by those of all months.
+    let temps = [-78, -75, -48, -14, 36, 72, 98, 95, 61, 22, -34, -65];
+    let pass = Head { trip: 186, temps, first: 20_260_515, last: 20_261_020 };
+    println!("CO from cold starts, 15 May to 20 October 2026: {} g", cold_co(pass, &fleet)?);
+    println!("CO from cold starts, without dates: {} g", cold_co(Head { first: 0, last: 0, ..pass }, &fleet)?);
 
     // A refusal is a number. A refused add gives the run as it was, a list passes the record over, a sheet is sent back.
     let mut wrong = fleet;

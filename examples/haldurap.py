@@ -15,13 +15,14 @@ import os
 from collections import namedtuple
 from ctypes import POINTER, Structure, c_double, c_int64, c_size_t, c_uint8, c_uint64
 
-LAYOUT = 5
+LAYOUT = 6
 MOST_RECORDS = 5000
 MOST_TEXT = 65536
 LINE_BYTES = 97
 REPORT_BYTES = 1455
 REFUSED_BYTES = 17
 HEAD_BYTES = 66
+DATED_HEAD_BYTES = 84
 RECORD_BYTES = 41
 RECORD_NUMBERS = 9
 AREAS = 16
@@ -33,7 +34,7 @@ CO, NOX, VOC, PM, FC = QUANTITIES = (1, 2, 3, 4, 5)
 KINDS = ("urban", "rural", "highway", "cold")
 ROADS = KINDS[:3]
 (TAKEN, TRIP_LENGTH, TEMPERATURE, CLASS, VEHICLES, KILOMETRES, DISTANCE, SHARES, SPEED, FULL, LINE_SHAPE, FUEL_OR_QUANTITY,
- NO_FUEL_USED, SOLD_FUEL, SHORT_BUFFER, FUEL_CONTENT, RUN_ORDER, NO_AREA, FULL_AREA) = range(19)
+ NO_FUEL_USED, SOLD_FUEL, SHORT_BUFFER, FUEL_CONTENT, RUN_ORDER, NO_AREA, FULL_AREA, NO_DAY, DAY_ORDER) = range(21)
 
 # What each number means, and what to do about it.
 MEANINGS = {
@@ -59,6 +60,10 @@ MEANINGS = {
     NO_AREA: "the area is not 0 to 15; areas are numbered from 0, and sixteen stand under one head",
     FULL_AREA: "the area has 300 records or more, and the 200 that all areas share are used; add the rest of this area to a run of"
                " its own (open_run), and add up the figures",
+    NO_DAY: "the first or the last day of the period is no day of the years 1980 to 2100; write both as year x 10,000 + month x 100"
+            " + day (15 May 2026 is 20260515), or leave both out for a head without dates",
+    DAY_ORDER: "the last day of the period is before the first, or in another year; give the first day first, and split a period"
+               " over the turn of a year into two runs, and add up the figures",
 }
 
 
@@ -174,10 +179,11 @@ class _Numbers(Structure):
 
 
 class Head(_Numbers):
-    _fields_ = [("trip", c_uint64), ("temps", _array(c_int64, 12, "temps", "twelve temperatures"))]
+    # first and last are 0 and 0 for a head without dates
+    _fields_ = [("trip", c_uint64), ("temps", _array(c_int64, 12, "temps", "twelve temperatures")), ("first", c_uint64), ("last", c_uint64)]
 
-    def __init__(self, trip, temps):
-        super().__init__(trip, temps)
+    def __init__(self, trip, temps, first=0, last=0):
+        super().__init__(trip, temps, first, last)
 
 
 class Shares(_Numbers):
@@ -324,9 +330,10 @@ def layout():
     return answer.version, answer.size
 
 
-def head(trip, temps):
-    """trip in tenths of km, twelve temperatures in tenths of a degree Celsius."""
-    return Head(trip, temps)
+def head(trip, temps, first=0, last=0):
+    """trip in tenths of km, twelve temperatures in tenths of a degree Celsius. For a part of a year its first and its last day,
+    both included, as 20260515 for 15 May 2026; without them (or with 0 and 0) all months weigh alike."""
+    return Head(trip, temps, first, last)
 
 
 def record(vehicle_class, vehicles, km, shares, speeds):
@@ -335,7 +342,7 @@ def record(vehicle_class, vehicles, km, shares, speeds):
 
 
 def open_run(a_head):
-    """The fresh run of a head. Refuses 1, 2."""
+    """The fresh run of a head. Refuses 1, 2, 19, 20."""
     return _taken(_call("open")(_of("a_head", a_head, Head))).run
 
 
@@ -347,7 +354,7 @@ def add(run, a_record):
 def add_list(a_head, records):
     """Opens a run and adds the records one after the other; a refused one is passed over. Gives a ListAdded: the run, how
     many were taken, the place (from 1) and the number of the first refused one, 0 and 0 for none. The records may also be
-    plain numbers, nine a record. Refuses 10 (not whole records), 1, 2."""
+    plain numbers, nine a record. Refuses 10 (not whole records), 1, 2, 19, 20."""
     _of("a_head", a_head, Head)
     numbers = []
     for item in _items("records", records, "records"):
@@ -366,7 +373,8 @@ def in_order(run):
 
 
 def open_areas(a_head):
-    """Sixteen fresh areas under a head, as an Areas. While one thread adds to them, no other may use them. Refuses 1, 2."""
+    """Sixteen fresh areas under a head, as an Areas. While one thread adds to them, no other may use them. Refuses 1, 2,
+    19, 20."""
     areas = Areas()
     _taken(_call("open_areas")(areas, AREAS_NUMBERS, _of("a_head", a_head, Head)))
     return areas

@@ -29,14 +29,14 @@
      A list with refused records and a text with the line REFUSED are no refused answers: number
      is 0, and haldurap_list_answer and haldurap_text_answer say where to look instead.
    - What is lent to a refused call stays as it was, every byte, with one exception:
-       haldurap_open_areas   refused by 1 or 2, makes every number of the areas 0.
+       haldurap_open_areas   refused by its head (1, 2, 19, 20), makes every number of the areas 0.
    - No call has a precondition on its numbers: any 64-bit value may be handed in, and what is out
      of range is refused by number. What the caller owes is C's own: pointers that are not null
      (also where the length is 0), aligned memory of the stated length, a buffer and areas that
      overlap nothing else that is lent.
    - Where several grounds fit, the first in this order is given: 16, then 11, then ascending; in
-     adding to an area 16, 17, 3 to 8, 18; in a line of a sheet and in a list 10 comes first. A
-     sheet is sent back by its first bad line.
+     adding to an area 16, 17, 3 to 8, 18; of a head 1, 2, 19, 20; in a line of a sheet and in a list
+     10 comes first. A sheet is sent back by its first bad line.
    - A run is plain data, and so are areas. They may be copied, compared by memcmp, stored and
      handed in again. A run is tested for order (16) by every call that takes one, areas by every
      call that reads them; see haldurap_run and haldurap_areas for what that test sees and what it
@@ -46,7 +46,8 @@
      and an archive are mixed.
 
    Units: grams, vehicle kilometres and km/h are whole numbers; trip lengths are tenths of km,
-   temperatures tenths of a degree Celsius, shares percent.
+   temperatures tenths of a degree Celsius, shares percent. A day is written year x 10,000 +
+   month x 100 + day: 15 May 2026 is 20260515.
 */
 #ifndef HALDURAP_H
 #define HALDURAP_H
@@ -70,7 +71,7 @@ extern "C" {
 #endif
 
 /* The layout that this header describes; haldurap_layout() tells that of the archive. */
-#define HALDURAP_LAYOUT 5   /* digits joined haldurap_balance_answer; the run's own layout is that of 3 */
+#define HALDURAP_LAYOUT 6   /* first and last joined haldurap_head; the run's own layout is that of 3 */
 
 /* Limits. */
 #define HALDURAP_MOST_RECORDS 5000      /* records in a run */
@@ -78,7 +79,8 @@ extern "C" {
 #define HALDURAP_LINE_BYTES 97          /* one line of a report, LF included */
 #define HALDURAP_REPORT_BYTES 1455      /* room enough for every report: 15 lines */
 #define HALDURAP_REFUSED_BYTES 17       /* the line REFUSED, LF included */
-#define HALDURAP_HEAD_BYTES 66          /* the first line of a sheet, LF included */
+#define HALDURAP_HEAD_BYTES 66          /* the first line of a sheet without dates, LF included */
+#define HALDURAP_DATED_HEAD_BYTES 84    /* the first line of a sheet with dates, LF included */
 #define HALDURAP_RECORD_BYTES 41        /* every other line of a sheet, LF included */
 #define HALDURAP_RECORD_NUMBERS 9       /* numbers of a record in a list (haldurap_add_list) */
 #define HALDURAP_AREAS 16               /* areas under one head */
@@ -106,7 +108,9 @@ enum haldurap_number {
     HALDURAP_FUEL_CONTENT = 15,     /* R over 4,000, s over 10,000 or l over 1,000 */
     HALDURAP_RUN_ORDER = 16,        /* the run or the areas are not in order (see haldurap_run, haldurap_areas) */
     HALDURAP_NO_AREA = 17,          /* area above 15 */
-    HALDURAP_FULL_AREA = 18         /* the area has 300 records or more and the common 200 are used */
+    HALDURAP_FULL_AREA = 18,        /* the area has 300 records or more and the common 200 are used */
+    HALDURAP_NO_DAY = 19,           /* no such day, or not from 1980 to 2100 */
+    HALDURAP_DAY_ORDER = 20         /* the last day before the first, or in another year */
 };
 
 enum haldurap_fuel { HALDURAP_GASOLINE = 1, HALDURAP_DIESEL = 2, HALDURAP_LPG = 3 };
@@ -114,10 +118,16 @@ enum haldurap_fuel { HALDURAP_GASOLINE = 1, HALDURAP_DIESEL = 2, HALDURAP_LPG = 
 /* FC is the fuel used; the others are what leaves the exhaust. */
 enum haldurap_quantity { HALDURAP_CO = 1, HALDURAP_NOX = 2, HALDURAP_VOC = 3, HALDURAP_PM = 4, HALDURAP_FC = 5 };
 
-/* What a run is opened with. 104 bytes. */
+/* What a run is opened with. 120 bytes.
+   first and last are both 0 for a head without dates, in which all months weigh alike. Anything else is dated: the
+   first and the last day of the period that the records are of, both included, both in one year from 1980 to 2100
+   (Gregorian). In the cold starts each month then weighs by its days in the period, so that a whole year by dates is
+   not quite a head without dates. All twelve T are wanted, also of months without a day of the period. */
 typedef struct haldurap_head {
     uint64_t trip;              /*   0  mean trip length L, tenths of km, 10 to 200 */
     int64_t temps[12];          /*   8  mean temperature T of each month, tenths of a degree Celsius, -300 to 400 */
+    uint64_t first;             /* 104  the first day, year x 10,000 + month x 100 + day, or 0 */
+    uint64_t last;              /* 112  the last day, written alike, or 0 */
 } haldurap_head;
 
 /* The percent of the distance on each road; their sum is 100. 24 bytes. */
@@ -225,7 +235,7 @@ typedef struct haldurap_text_answer {
 /* What became of a list of records, and the run. 1,160 bytes.
    number is 0 also where records were refused: refused tells whether one was, taken how many were taken. */
 typedef struct haldurap_list_answer {
-    uint64_t number;            /*   0  0, or 10, 1, 2: the list or its head is refused */
+    uint64_t number;            /*   0  0, or 10, 1, 2, 19, 20: the list or its head is refused */
     uint64_t taken;             /*   8  how many records were taken; 0 where number is not 0 */
     size_t place;               /*  16  the place of the first refused record, from 1; 0 where none was refused */
     uint64_t refused;           /*  24  its number, 3 to 9; 0 where none was refused */
@@ -266,7 +276,7 @@ typedef struct haldurap_layout_answer {
 HALDURAP_ANSWER haldurap_layout_answer haldurap_layout(void);
 
 /* Opens a run: trip and the X of the head, no records, all sums 0.
-   Refuses 1, 2, and gives the run of zeros then (which is not in order). */
+   Refuses 1, 2, 19, 20, and gives the run of zeros then (which is not in order). */
 HALDURAP_ANSWER haldurap_run_answer haldurap_open(haldurap_head head);
 
 /* Adds a record. The answer's run has one record more, its kilometres, and its grams in the twenty
@@ -283,7 +293,7 @@ HALDURAP_ANSWER haldurap_run_answer haldurap_add(haldurap_run run, haldurap_reco
    A refused record is passed over, the run stays as it was and the rest are added: the answer tells how
    many were taken, and the place (from 1) and the number (3 to 9) of the first that was not. A list of
    length 0 is a list without records.
-   Refuses 10 (length is no multiple of 9), then 1, 2, and gives the run of zeros then. */
+   Refuses 10 (length is no multiple of 9), then 1, 2, 19, 20, and gives the run of zeros then. */
 HALDURAP_ANSWER haldurap_list_answer haldurap_add_list(haldurap_head head, const uint64_t *numbers, size_t length);
 
 /* 1 if the run is in order (see haldurap_run), else 0. Never refuses. */
@@ -291,8 +301,8 @@ HALDURAP_ANSWER uint64_t haldurap_in_order(haldurap_run run);
 
 /* Opens areas in the lent memory: each of the sixteen runs is that of haldurap_open, common is 0. Here and in
    the two calls below, length is the count of 64-bit numbers lent at areas: HALDURAP_AREAS_NUMBERS.
-   Refuses 16 (for another length alone; every number stays as it was), then 1, 2, and makes every number 0 then
-   (areas of zeros are not in order). */
+   Refuses 16 (for another length alone; every number stays as it was), then 1, 2, 19, 20, and makes every number 0
+   then (areas of zeros are not in order). */
 HALDURAP_ANSWER uint64_t haldurap_open_areas(haldurap_areas *areas, size_t length, haldurap_head head);
 
 /* Adds a record to an area, 0 to 15, in place: its run becomes what haldurap_add gives for it, and common rises
@@ -353,13 +363,14 @@ HALDURAP_ANSWER haldurap_figure_answer haldurap_figure_cold(haldurap_run run, ui
    Refuses 16, 14, and leaves the whole buffer as it was. HALDURAP_REPORT_BYTES is always enough. */
 HALDURAP_ANSWER haldurap_length_answer haldurap_report(haldurap_run run, uint8_t *buffer, size_t length);
 
-/* Reads a sheet of any length: lines ended by LF, the first with 13 numbers of width 5 (L, then T), the
-   others with class (width 2), vehicles (7), km (7), three shares and three speeds (4 each). Numbers
-   are right-justified with spaces, without leading zeros; a minus stands only before a T that is not
-   0. A head alone is a full sheet.
+/* Reads a sheet of any length: lines ended by LF, the first with 13 numbers of width 5 (L, then T) or with 15,
+   behind these the first and the last day in width 9 each; the others with class (width 2), vehicles (7),
+   km (7), three shares and three speeds (4 each). Numbers are right-justified with spaces, without leading
+   zeros; a minus stands only before a T that is not 0. A head alone is a full sheet. A line of 15 numbers is
+   dated whatever its days are: days 0 and 0 there are refused by 19.
    Gives number 0, line 0 and the run with all records. The first bad line decides: in line 1 number
-   10, then 1, 2; in the others 10, then 3 to 9; bytes after the last LF are a line of wrong shape, and
-   an empty text is 10 at line 1. A refused sheet gives the number, its line from 1, and the run of
+   10, then 1, 2, 19, 20; in the others 10, then 3 to 9; bytes after the last LF are a line of wrong shape,
+   and an empty text is 10 at line 1. A refused sheet gives the number, its line from 1, and the run of
    zeros. The text is only read. */
 HALDURAP_ANSWER haldurap_sheet_answer haldurap_sheet(const uint8_t *text, size_t length);
 

@@ -7,7 +7,7 @@
 compile_error!("haldurap.rs: the archive is for x86-64 Linux with 64-bit pointers");
 
 /// The layout that this file describes; `haldurap_layout` tells that of the archive.
-pub const LAYOUT: u64 = 5;
+pub const LAYOUT: u64 = 6;
 
 /// Records in a run.
 pub const MOST_RECORDS: u64 = 5000;
@@ -19,8 +19,10 @@ pub const LINE_BYTES: usize = 97;
 pub const REPORT_BYTES: usize = 1455;
 /// The line REFUSED, LF included.
 pub const REFUSED_BYTES: usize = 17;
-/// The first line of a sheet, LF included.
+/// The first line of a sheet without dates, LF included.
 pub const HEAD_BYTES: usize = 66;
+/// The first line of a sheet with dates, LF included.
+pub const DATED_HEAD_BYTES: usize = 84;
 /// Every other line of a sheet, LF included.
 pub const RECORD_BYTES: usize = 41;
 /// Numbers of a record in a list.
@@ -74,6 +76,10 @@ pub const RUN_ORDER: u64 = 16;
 pub const NO_AREA: u64 = 17;
 /// The area has 300 records or more and the common 200 are used.
 pub const FULL_AREA: u64 = 18;
+/// No such day, or not from 1980 to 2100.
+pub const NO_DAY: u64 = 19;
+/// The last day before the first, or in another year.
+pub const DAY_ORDER: u64 = 20;
 
 // Fuels.
 
@@ -89,9 +95,11 @@ pub const VOC: u64 = 3;
 pub const PM: u64 = 4;
 pub const FC: u64 = 5;
 
+/// The first and the last day of the period are written as 20260515 for 15 May 2026; both 0 for a head without dates, and anything
+/// else is dated.
 #[repr(C)]
 #[derive(Clone, Copy, Debug, PartialEq)]
-pub struct Head { pub trip: u64, pub temps: [i64; 12] }
+pub struct Head { pub trip: u64, pub temps: [i64; 12], pub first: u64, pub last: u64 }
 
 #[repr(C)]
 #[derive(Clone, Copy, Debug, PartialEq)]
@@ -228,7 +236,7 @@ pub fn in_order(run: Run) -> bool {
     haldurap_in_order(run) == 1
 }
 
-/// Gives the number; refused by 1 or 2, the areas are zeros.
+/// Gives the number; refused by the head, the areas are zeros.
 #[must_use]
 pub fn open_areas(areas: &mut Areas, head: Head) -> u64 {
     unsafe { haldurap_open_areas((&raw mut *areas).cast(), AREAS_NUMBERS, head) }

@@ -92,7 +92,7 @@ def declarations(calls, constants, pointers):
     same(rust_pointers(rust), pointers, "pointers of haldurap.rs")
     same(sorted(re.findall(r"^pub fn (\w+)\(", rust, re.M)), sorted(call.split("(")[0] for call in WRAPPERS), "safe functions of haldurap.rs")
     same({"haldurap_" + name: len(words) for name, (words, _) in python._CALLS.items()}, numbers, "calls of haldurap.py and their parameters")
-    same(sorted(python.MEANINGS), list(range(1, 19)), "meanings of haldurap.py")
+    same(sorted(python.MEANINGS), list(range(1, 21)), "meanings of haldurap.py")
 
 
 # ---- The compilers

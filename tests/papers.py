@@ -104,14 +104,15 @@ def figures():
 
 
 def samples():
-    example, fleet, damaged = (read("sheets/%s.txt" % name) for name in ("example", "fleet", "damaged"))
+    example, fleet, seasonal, damaged = (read("sheets/%s.txt" % name) for name in ("example", "fleet", "seasonal", "damaged"))
     sheet, report = re.findall(r"^```\n(.*?)^```", SECTIONS["Report"], re.S | re.M)[:2]
     same("the page's sheet", sheet, example)
     same("the page's report", report, ref.program_text(example.encode()).decode())
     blocks = ["\n".join(line[4:] for line in block.split("\n")) for block in re.findall(r"(?:^    .*\n)+", README, re.M)]
-    for label, text in (("example's report", ref.program_text(example.encode()).decode()), ("fleet's report", ref.program_text(fleet.encode()).decode())):
-        same("README: " + label, text in blocks, True)
-    same("README: the fleet", any(block.endswith(fleet) for block in blocks), True)
+    for label, text in (("example", example), ("fleet", fleet), ("seasonal road", seasonal)):
+        same("README: the report of the " + label, ref.program_text(text.encode()).decode() in blocks, True)
+    for label, text in (("fleet", fleet), ("seasonal road", seasonal)):
+        same("README: the sheet of the " + label, any(block.endswith(text) for block in blocks), True)
     same("README: the factors of class 6", factors.table(6).startswith(next(block for block in blocks if block.startswith("class 6,"))), True)
     same("README: the damaged sheet", "prints `%s`" % ref.program_text(damaged.encode()).decode().rstrip("\n") in README, True)
 

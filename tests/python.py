@@ -118,6 +118,13 @@ def questions(run, wanted, rng):
     same(outcome(h.report, run), either(number, buffer[:length]), "report")
 
 
+# Heads that are refused, by 1, 2, 19 and 20, and by the first of several.
+WRONG_HEADS = [(9, [100] * 12), (201, [401] * 12), (120, [100] * 11 + [401]), (2**64 - 1, [-2**63] * 12), (9, [401] * 12, 1, 0),
+               (120, [100] * 11 + [401], 20260431, 20260430), (120, [100] * 12, 20260431, 20260430), (120, [100] * 12, 21000229, 21000301),
+               (120, [100] * 12, 20260515, 0), (120, [100] * 12, 2**64 - 1, 2**32 + 20260515), (120, [100] * 12, 19791231, 19800101),
+               (120, [100] * 12, 20260516, 20260515), (120, [100] * 12, 20261231, 20270101)]
+
+
 def runs(rng):
     """Runs of opening, adding and lists, and runs out of order."""
     same(h.layout(), (h.LAYOUT, 1128), "layout")
@@ -145,11 +152,11 @@ def runs(rng):
         setattr(bad_wanted, field, dict(zip(ref.X_NAMES, value)) if field == "x" else value)
         questions(bad, bad_wanted, rng)
         same(outcome(h.add, bad, record_of(fleet[0])), refused(16), "add to a run out of order")
-    for trip, temps in ((9, [100] * 12), (120, [100] * 11 + [401]), (2**64 - 1, [-2**63] * 12)):
-        number, _ = ref.open_run((trip, temps))
-        same(outcome(h.open_run, h.head(trip, temps)), refused(number), "open_run of L %d" % trip)
-        same(outcome(h.add_list, h.head(trip, temps), []), refused(number), "add_list of L %d" % trip)
-        same(outcome(h.add_list, h.head(trip, temps), [1]), refused(10), "add_list of L %d, one number" % trip)
+    for bad in WRONG_HEADS:
+        number, _ = ref.open_run(bad)
+        same(outcome(h.open_run, head_of(bad)), refused(number), "open_run of %s" % (bad,))
+        same(outcome(h.add_list, head_of(bad), []), refused(number), "add_list of %s" % (bad,))
+        same(outcome(h.add_list, head_of(bad), [1]), refused(10), "add_list of %s, one number" % (bad,))
 
     def listed(records, numbers, what):
         number, taken, place, why, wanted = ref.add_list(head, numbers)
@@ -172,6 +179,37 @@ def runs(rng):
     same(outcome(h.add, run, record_of(vectors.EXAMPLE)), refused(9), "add to a full run")
 
 
+def days(rng):
+    """Dated heads: the run, a list, areas and a sheet as the reference has them; 0 and 0 are no dates but in a sheet."""
+    record = record_of(vectors.EXAMPLE)
+    periods = [(20000229, 20000229), (20260515, 20261020), (20260101, 20261231), (20000101, 20001231), (19800101, 19800131), (21001231, 21001231)]
+    for days in periods + [vectors.some_days(rng) for _ in range(40)]:
+        head = (*sheets.some_head(rng), *days)
+        number, wanted = ref.open_run(head)
+        same(number, 0, "days %d to %d" % days)
+        same_run(outcome(h.open_run, head_of(head)), wanted, "open_run of %s" % (head,))
+        same_run(h.open_run(h.head(*head[:2], last=days[1], first=days[0])), wanted, "days by name")
+        _, wanted = ref.add(wanted, vectors.EXAMPLE)
+        same_run(h.add_list(head_of(head), [record]).run, wanted, "add_list of %s" % (head,))
+        same_run(h.area_run(h.add_area(h.open_areas(head_of(head)), 4, record), 4), wanted, "an area of %s" % (head,))
+        same_run(h.sheet(ref.head_line(head) + sheets.RECORD), wanted, "a sheet of %s" % (head,))
+    head = sheets.some_head(rng)
+    for made in (h.head(*head), h.head(*head, 0, 0), h.head(*head, first=0), h.Head(*head)):
+        same((made.first, made.last), (0, 0), "a head without dates")
+        same_run(h.open_run(made), ref.open_run(head)[1], "a head without dates")
+    for first, last in ((20260515, 0), (0, 20260515)):
+        same(outcome(h.open_run, h.head(*head, first, last)), refused(19), "one day alone")
+    same(outcome(h.sheet, ref.head_line((*head, 0, 0))), refused(19, 1), "days 0 and 0 in a sheet")
+    # each message says what is wrong and what to do
+    for days, number, said in (((20260431, 20260501), 19, "20260515"), ((20260501, 20260430), 20, "two runs")):
+        try:
+            h.open_run(h.head(*head, *days))
+            text = "taken"
+        except h.Refused as error:
+            text = str(error)
+        same((text.startswith("refused with %d: " % number), said in text), (True, True), "what is said of %d: %s" % (number, text))
+
+
 def digits():
     """Balances by the digits worked, FC of diesel set by hand: 6 to 12, 12 without an end, and S a multiple of it."""
     wanted = ref.open_run((120, vectors.MILD))[1]
@@ -191,8 +229,8 @@ def areas(rng):
     head = sheets.some_head(rng)
     lent, (number, wanted) = h.open_areas(head_of(head)), ref.open_areas(head)
     same_areas(lent, wanted, "open_areas")
-    for trip, temps in ((9, [100] * 12), (201, [401] * 12), (120, [100] * 11 + [401]), (2**64 - 1, [-2**63] * 12)):
-        same(outcome(h.open_areas, h.head(trip, temps)), refused(ref.open_areas((trip, temps))[0]), "open_areas of L %d" % trip)
+    for bad in WRONG_HEADS:
+        same(outcome(h.open_areas, head_of(bad)), refused(ref.open_areas(bad)[0]), "open_areas of %s" % (bad,))
     cls, vehicles, km, shares, speeds = vectors.EXAMPLE
     bad = [(0, vehicles, km, shares, speeds), (cls, 0, km, shares, speeds), (cls, vehicles, 0, shares, speeds), (cls, 100001, 10000, shares, speeds),
            (cls, vehicles, km, (40, 40, 19), speeds), (cls, vehicles, km, shares, (20, 60, 131)), (0, 0, 0, (0, 0, 0), (0, 0, 0))]
@@ -323,10 +361,11 @@ def copies():
 
 def texts(rng):
     """Sheets that are taken and refused: the run, or number and line; the text with number and line."""
-    cases = [sheets.some_sheet(rng, n) for n in (0, 1, 5, 40)]
+    cases = [sheets.some_sheet(rng, n, head) for n in (0, 1, 5, 40) for head in (sheets.some_head, sheets.some_dated_head)]
     cases += [sheets.HEAD + sheets.RECORD + line for line in sheets.BAD.values()]
     cases += [b"", b"\n", sheets.HEAD[:-1], sheets.HEAD + sheets.RECORD * 1597, sheets.HEAD + sheets.RECORD * 5001, b" " * 65537]
-    cases += [sheets.edited(rng, sheets.HEAD + sheets.RECORD) for _ in range(200)]
+    cases += [sheets.edited(rng, head + sheets.RECORD) for _ in range(100) for head in (sheets.HEAD, sheets.DATED)]
+    cases += [ref.head_line((120, [100] * 12, *days)) for days in ((0, 0), (20260431, 20260501), (20260501, 20260430))]
     for text in cases:
         what = "sheet %r" % text[:200]
         number, line, wanted = ref.read_sheet(text)
@@ -391,6 +430,9 @@ def wrong_arguments():
         for value, said in NOT_TEMPERATURES:
             for month in range(12):
                 same(outcome(make, 120, [*temps[:month], value, *temps[month + 1:]]), error("temps", said), "temperature %r" % (value,))
+        for value, said in NOT_NUMBERS:
+            same(outcome(make, 120, temps, value, 20261020), error("first", said), "first day %r" % (value,))
+            same(outcome(make, 120, temps, 20260515, value), error("last", said), "last day %r" % (value,))
     # records
     for make in (h.record, h.Record):
         for name, place in (("shares", 3), ("speeds", 4)):
@@ -412,7 +454,8 @@ def wrong_arguments():
                 same(outcome(make, *values), error(name, said), "%s %r" % (name, value))
     same(h.record(Index(2), Index(1000), 10000, shares, speeds).numbers(), [2, 1000, 10000, 40, 40, 20, 20, 60, 100], "numbers of another type")
     # a struct's field, later
-    for struct, name in ((h.head(120, temps), "trip"), (h.record(2, 1, 1, shares, speeds), "vehicles"), (h.Run(), "count")):
+    for struct, name in ((h.head(120, temps), "trip"), (h.head(120, temps), "first"), (h.head(120, temps), "last"),
+                         (h.record(2, 1, 1, shares, speeds), "vehicles"), (h.Run(), "count")):
         for value, said in NOT_NUMBERS:
             same(outcome(setattr, struct, name, value), error(name, said), "%s set to %r" % (name, value))
     head = h.head(120, temps)
@@ -469,7 +512,8 @@ def wrong_arguments():
         for call in (lambda: setattr(lent, "runs", [run] * 15 + [value]), lambda: lent.runs.__setitem__(3, value),
                      lambda: lent.runs.__setitem__(slice(0, 2), [run, value])):
             same(outcome(call), error("runs", "a Run is wanted, %r given" % (value,)), "a run set to %r" % (value,))
-    for value, fields in ((lent, "runs, common"), (h.Run(), "trip, x, count, km, grams, rests"), (h.Head(120, [100] * 12), "trip, temps")):
+    for value, fields in ((lent, "runs, common"), (h.Run(), "trip, x, count, km, grams, rests"),
+                          (h.Head(120, [100] * 12), "trip, temps, first, last")):
         name = type(value).__name__
         same(outcome(setattr, value, "comon", 3), "AttributeError: %s has no field comon; its fields are %s" % (name, fields), "a misspelt field of %s" % name)
     same(bytes(lent) == whole, True, "areas after refused changes")
@@ -497,14 +541,14 @@ def whole_module():
     same(len(calls), 25, "calls of the header")
     names = {"open": "open_run"}
     same([name for name in calls if not callable(getattr(h, names.get(name, name), None))], [], "calls without a function")
-    for number in range(1, 19):
+    for number in range(1, 21):
         for line in (None, 7):
             error = h.Refused(number, line)
             where = "" if line is None else " at line 7"
             same(str(error), "refused with %d%s: %s" % (number, where, h.MEANINGS[number]), "text of Refused")
             again = pickle.loads(pickle.dumps(error))
             same((again.number, again.line, str(again)), (number, line, str(error)), "Refused, stored")
-    same(len(set(h.MEANINGS.values())), 18, "meanings")
+    same(len(set(h.MEANINGS.values())), 20, "meanings")
 
 
 def main():
@@ -512,6 +556,7 @@ def main():
     whole_module()
     wrong_arguments()
     runs(rng)
+    days(rng)
     digits()
     areas(rng)
     shared_records()

@@ -115,7 +115,7 @@ def examples(t):
         name = os.path.basename(path)
         t.from_file(name + " as a file", path, ref.program_text(text))
         t.at_once(name, text)
-        for sizes in ([1], [7], [40], [41], [65], [66], [67], [65, 1, 40, 1]):
+        for sizes in ([1], [7], [40], [41], [65], [66], [67], [83], [84], [85], [65, 1, 40, 1], [65, 9, 9, 1]):
             t.in_pieces(name, text, sizes, 0.001)
     t.from_file("the specification's report", os.path.join(ROOT, "sheets", "example.txt"), EXAMPLE)
     t.from_file("no input", os.devnull, ref.refused_line(10, 1))
@@ -132,6 +132,8 @@ def generated(t):
     rng = random.Random(1998)
     for n in [rng.randint(0, 60) for _ in range(40)] + [400, 1000, 1595, 1596]:
         t.at_once("fleet of %d" % n, sheets.some_sheet(rng, n))
+    for n in [rng.randint(0, 60) for _ in range(40)] + [1596]:
+        t.at_once("fleet of %d, dated" % n, sheets.some_sheet(rng, n, sheets.some_dated_head))
 
 
 def edge(t):
@@ -152,6 +154,9 @@ def edge(t):
         "records, random behind them": sheets.HEAD + sheets.RECORD * 1596 + bytes(rng.randrange(256) for _ in range(4000)),
         "L 9": low + fill,
         "T 401": mild + fill,
+        "dated": sheets.DATED + fill,
+        "day 0": ref.head_line((120, [100] * 12, 0, 0)) + fill,
+        "days out of order": ref.head_line((120, [100] * 12, 20260516, 20260515)) + fill,
     }
     for number, line in sheets.BAD.items():
         texts["%d at line 2" % number] = sheets.HEAD + line + fill
@@ -163,6 +168,7 @@ def edge(t):
     # The fullest sheet that fits, and the same with one record more, which does not fit.
     for n in (1595, 1596, 1597, 1598, 4999, 5000, 5001):
         t.at_once("%d records" % n, sheets.HEAD + sheets.RECORD * n)
+        t.at_once("%d records, dated" % n, sheets.DATED + sheets.RECORD * n)
     for size in (131072, 131073, 1000000):
         t.at_once("%d bytes" % size, (sheets.HEAD + sheets.RECORD * 25000)[:size])
 
@@ -181,6 +187,9 @@ def pieces(t):
     t.in_pieces("100000 bytes", (sheets.HEAD + sheets.RECORD * 3000)[:100000], [9999], 0.002)
     t.in_pieces("empty sheet, late", b"", [1], 0.05)
     t.in_pieces("head alone", sheets.HEAD, [13], 0.002)
+    # up to where a head without dates would end, and the days late
+    for sizes in ([65], [66], [65, 1], [64, 2], [66, 17, 1], [83, 1]):
+        t.in_pieces("dated head and record", sheets.DATED + sheets.RECORD, sizes, 0.01)
     t.in_pieces("example, late", sheets.HEAD + sheets.RECORD, [66, 41], 0.1)
 
 

@@ -7,7 +7,7 @@ The program keeps 2,400 numbers, all 0 at first, of which it lends the first 2,2
 by hand since, each run and each total is also held against the tally of its area.
 
     lend N                                               nothing; from now on the first N numbers are lent
-    open L T..                                           number
+    open L T.. FIRST LAST                                number; the days are 0 and 0 for a head without dates
     add AREA TIMES CLASS VEHICLES KM SHARES.. SPEEDS..   number of the last add (0 for none), common use
     put PLACE VALUE                                      nothing; one of the numbers changed by hand
     run AREA                                             number; then every number of the run
@@ -20,7 +20,7 @@ from fractions import Fraction
 import reference as ref
 import tight_list
 import vectors
-from vectors import EXAMPLE, MAX, MILD, PLACES, some_record
+from vectors import EXAMPLE, MAX, MILD, PLACES, YEAR, some_days, some_record
 
 NUMBERS = 2400
 LENT = 2257
@@ -33,7 +33,6 @@ TRIP, X, COUNT, KM, GRAMS, RESTS = 0, 1, 17, 18, 21, 81
 
 MOST = (6, 1000000, 1000, (100, 0, 0), (130, 130, 130))
 COLD = [-300] * 12
-YEAR = [-50, -20, 10, 60, 110, 150, 180, 175, 130, 80, 30, -10]
 # A record of its own for each area, all classes among them.
 FLEET = [(i % 7 + 1, 1000 + 37 * i, 9000 - 11 * i, (40 - i, 40, 20 + i), (15 + i, 60 + 2 * i, 100 + i)) for i in ref.AREAS]
 # One record for each of 3 to 8, and some that several of them fit.
@@ -58,11 +57,12 @@ class Answers:
         self.lent = length
         return []
 
-    def open(self, trip, *temps):
+    def open(self, trip, *rest):
         if not self.is_lent_whole():
             return [16]
-        number, self.areas = ref.open_areas((trip, temps))
-        self.tallies = ref.AreaTallies((trip, temps)) if number == 0 else None
+        head = ref.lent_head(trip, rest[:12], *rest[12:])
+        number, self.areas = ref.open_areas(head)
+        self.tallies = ref.AreaTallies(head) if number == 0 else None
         return [number]
 
     def add(self, area, times, cls, vehicles, km, *rest):
@@ -133,8 +133,8 @@ class Cases(vectors.Cases):
         self.answered.append(self.answers.line(self.lines[-1]))
         assert number is None or self.answered[-1].split(" = ")[1].split()[0] == str(number), self.answered[-1]
 
-    def open(self, trip, temps, number=0):
-        self.say("open", trip, *temps, number=number)
+    def open(self, trip, temps, first=0, last=0, number=0):
+        self.say("open", trip, *temps, first, last, number=number)
 
     def add(self, area, record, times=1, number=None):
         cls, vehicles, km, shares, speeds = record
@@ -339,7 +339,7 @@ def openings(c):
     for number, trip, temps in ((1, 9, MILD), (2, 120, [401] + MILD[1:]), (1, 201, MILD), (2, 120, MILD[1:] + [-301]), (1, 9, [401] * 12),
                                 (1, 0, [0] * 12), (1, MAX, COLD)):
         begun(c)
-        c.open(trip, temps, number)
+        c.open(trip, temps, number=number)
         c.runs((0, 15))
         for area in (0, 7, 15, 16):
             c.add(area, EXAMPLE, number=16)
@@ -348,7 +348,7 @@ def openings(c):
         # Zeros, and what a hand wrote into them is gone after the next.
         if trip in (9, 120):
             c.put({at(4, GRAMS + 7): 5, at(15, RESTS + 59): MAX, COMMON: 3})
-            c.open(trip, temps, number)
+            c.open(trip, temps, number=number)
             c.say("all")
     # Limits that are met, each over areas in use.
     for trip, temps in ((10, MILD), (200, COLD), (120, [400] * 12), (11, [-300] + [400] * 11)):
@@ -368,8 +368,8 @@ def lengths(c):
     c.say("all")
     for length in (0, 1, 141, 2256, 2258, 2400):
         c.say("lend", length)
-        c.open(120, MILD, 16)
-        c.open(9, [401] * 12, 16)
+        c.open(120, MILD, number=16)
+        c.open(9, [401] * 12, number=16)
         for area in (0, 4, 15, 16, MAX):
             c.add(area, EXAMPLE, number=16)
             c.add(area, BAD[0], 2, number=16)
@@ -384,13 +384,13 @@ def lengths(c):
     # Areas out of order, and of zeros.
     c.put({COMMON: 0})
     c.say("lend", 2256)
-    c.open(9, MILD, 16)
+    c.open(9, MILD, number=16)
     c.add(16, BAD[0], number=16)
     c.total(16, number=16)
     c.say("lend", LENT)
-    c.open(9, MILD, 1)
+    c.open(9, MILD, number=1)
     c.say("lend", 2258)
-    c.open(120, MILD, 16)
+    c.open(120, MILD, number=16)
     c.add(0, EXAMPLE, number=16)
     c.total(0, number=16)
     c.say("lend", LENT)
@@ -569,11 +569,58 @@ def anything(c):
     c.say("all")
 
 
+def dated(c):
+    """Areas under dated heads: 16 for another length, 1, 2, 19, 20, and zeros where refused; one day, a season, whole years."""
+    refused = [(19, 120, YEAR, 20260515, 20260631), (19, 120, YEAR, 0, 20260515), (19, 120, YEAR, 20260515, 0), (19, 120, YEAR, MAX, 1),
+               (19, 120, YEAR, 21000229, 21000301), (19, 120, YEAR, 19791231, 19800101), (20, 120, YEAR, 20260516, 20260515),
+               (20, 120, YEAR, 20261231, 20270101), (1, 9, YEAR, 20260631, 0), (2, 120, [401] + YEAR[1:], 20260631, 20260515),
+               (2, 120, YEAR[1:] + [-301], 20260516, 20260515)]
+    for number, trip, temps, first, last in refused:
+        begun(c)
+        c.open(trip, temps, first, last, number=number)
+        c.runs((0, 15))
+        c.add(7, EXAMPLE, number=16)
+        c.total(7, number=16)
+    begun(c)
+    c.say("lend", LENT - 1)
+    for first, last in ((20260515, 20261020), (20260515, 0), (20260516, 20260515)):
+        c.open(120, YEAR, first, last, number=16)
+    c.say("lend", LENT)
+    c.say("run", 2, number=0)
+    for first, last in ((20000229, 20000229), (20260515, 20261020), (20260101, 20261231), (20000101, 20001231), (0, 0)):
+        c.open(120, YEAR, first, last)
+        c.fill(17)
+        c.add(6, FLEET[6], 283)
+        c.runs((2, 6))
+        c.totals((0, 2, 6))
+    c.add(6, EXAMPLE, 201, number=18)
+    # an X by the days and not by twelfths is another head's
+    x = [ref.open_run((120, YEAR, *days))[1].x[1, ref.CO] for days in ((), (20260101, 20261231))]
+    assert x[0] != x[1]
+    c.changed(16, {at(4, X): x[1]})
+    c.changed(0, alike(X, x[1]))
+    # 72/100 once, under a dated head; and the tight list
+    for head in (vectors.TWICE_IS_MORE[1], vectors.TWICE_IS_LESS[1], tight_list.DATED_HEAD):
+        c.open(*head)
+        for area, cls in ((3, 3), (2, 2), (6, 6)):
+            c.add(area, (cls, *MOST[1:]), 300, number=0)
+        c.runs((3,))
+        c.totals((2, 3, 6))
+    rng = random.Random(2027)
+    for _ in range(4):
+        c.open(rng.randint(10, 200), [rng.randint(-300, 400) for _ in range(12)], *some_days(rng))
+        for _ in range(40):
+            c.add(rng.randrange(17), rng.choice(BAD) if rng.random() < 0.1 else some_record(rng), rng.choice((1, 1, 2, 7)))
+        area = rng.randrange(16)
+        c.runs((area,))
+        c.totals((area, (area + 3) % 16))
+
+
 def cases():
     """Every line of standard input, and what each is answered."""
     c = Cases()
     for part in (example, one_filled, common_used, own_kept, no_area, grounds, several_wrong, openings, lengths, heads, counts, sums,
-                 largest, loops, anything):
+                 largest, loops, anything, dated):
         part(c)
     return c.lines, c.answered
 

@@ -3,7 +3,7 @@
     python3 tools/questions.py            writes crates/questions/stdin and crates/questions/stdout
     python3 tools/questions.py --check    exits 1 if the two files are not what it would write
 
-    open L T..                                      number
+    open L T.. FIRST LAST                           number; the days are 0 and 0 for a head without dates
     add TIMES CLASS VEHICLES KM SHARES.. SPEEDS..   number of the last add, record count
     put FIELD INDEX VALUE                           nothing; a field of the run changed by hand
     co2 FUEL R                                      number, grams
@@ -16,7 +16,7 @@ import random
 
 import reference as ref
 import vectors
-from vectors import COUNT, EXAMPLE, GRAMS, KM, MAX, MILD, PLACES, REST, TRIP, X
+from vectors import COUNT, EXAMPLE, GRAMS, KM, MAX, MILD, PLACES, REST, TRIP, X, YEAR
 
 # R, s and l at their ends, the values that the specification prints, and beside them.
 HYDROGEN = (0, 1, 1800, 1999, 3999, 4000, 4001, MAX)
@@ -164,6 +164,25 @@ def full_runs(c):
     c.map()
 
 
+def dated(c):
+    """Questions of runs under dated heads, and of the run of zeros that a refused one gives."""
+    for days in ((20000229, 20000229), (20260515, 20261020), (20260101, 20261231)):
+        c.open(87, YEAR, *days)
+        for record in FLEET:
+            c.add(record)
+        for fuel in ref.FUELS:
+            c.say("co2", fuel, 1800)
+            c.say("so2", fuel, 10)
+            c.say("lead", fuel, 5)
+        c.map()
+    for days in ((20260515, 0), (20260516, 20260515)):
+        c.open(87, YEAR, *days)
+        c.add(EXAMPLE)
+        c.say("co2", 1, 1800)
+        c.say("row", 1, 1)
+        c.say("figure", 1, 4, 3)
+
+
 class Answers(vectors.Answers):
     """What each line is answered, by the reference."""
 
@@ -189,7 +208,7 @@ class Answers(vectors.Answers):
 
 def main():
     c, answers = Cases(), Answers()
-    for part in (example, fleet, order, halves, large, full_runs):
+    for part in (example, fleet, order, halves, large, full_runs, dated):
         part(c)
     vectors.write_lines("questions", c.lines, answers)
 

@@ -1,12 +1,16 @@
 """The inventory in exact whole numbers, written from the customer's request alone: "COPERT II inventory core", its
-document 01, and the jobs of its document 02 that have landed (1 to 4), of which docs/SPECIFICATION.md says the same in our
+document 01, and the jobs of its document 02 that have landed (1 to 5), of which docs/SPECIFICATION.md says the same in our
 own words. Nothing here comes from the Rattle code. Lists of records, and the number and line beside a text, are from
 SPECIFICATION, "Lists of records" and "Report"; the order of the numbers of lent areas is from that page too.
 
 Each call is one function, and a refusal is its number in the table of refusals, 0 for none. The tallies at the end have
 the exact, never rounded sums that SPECIFICATION, "Accuracy", measures against.
+
+A head is (L, twelve T), and with dates (L, twelve T, first day, last day), the days as they are written: 15 May 2026 is
+20260515.
 """
 import re
+from collections import Counter
 from fractions import Fraction
 
 FUELS = (1, 2, 3)
@@ -112,6 +116,43 @@ class Areas:
         return Areas([*self.runs[:area], run, *self.runs[area + 1:]], common)
 
 
+# Job 5: the years of dated heads.
+YEARS = range(1980, 2101)
+
+
+def leap_days(year):
+    """The 29ths of February up to the end of a year of the Gregorian calendar: every fourth year has one, of the hundredth ones
+    only every fourth."""
+    return year // 4 - year // 100 + year // 400
+
+
+def all_days():
+    """Every day of these years as it is written, one after the other."""
+    for year in YEARS:
+        february = 28 + leap_days(year) - leap_days(year - 1)
+        for month, length in enumerate((31, february, 31, 30, 31, 30, 31, 31, 30, 31, 30, 31), 1):
+            yield from (year * 10000 + month * 100 + day for day in range(1, length + 1))
+
+
+CALENDAR = list(all_days())
+# The place of each day in the calendar; what is not in it is no day.
+PLACE = {day: place for place, day in enumerate(CALENDAR)}
+
+
+def month_weights(days):
+    """The weight of each month and their sum: alike without dates, else the days of the period in each, counted one by one."""
+    if not days:
+        return [1] * 12, 12
+    period = CALENDAR[PLACE[days[0]]:PLACE[days[1]] + 1]
+    in_month = Counter(day // 100 % 100 for day in period)
+    return [in_month[month] for month in range(1, 13)], len(period)
+
+
+def lent_head(trip, temps, first_day, last_day):
+    """A head as C and the test programs hand it in: days 0 and 0 are none, anything else is dated."""
+    return (trip, temps) if (first_day, last_day) == (0, 0) else (trip, temps, first_day, last_day)
+
+
 def half_up(value):
     """A Fraction (not negative) to whole numbers, half up."""
     return (2 * value.numerator + value.denominator) // (2 * value.denominator)
@@ -149,10 +190,12 @@ def x_name(cls, quantity):
 
 def unrounded_x(head):
     """The values X of a head before their rounding, by X_NAMES."""
-    trip, temps = head
-    sums = {(f, q): sum(cold_share(trip, t) * cold_excess(f, q, t) for t in temps) for f in FUELS for q in QUANTITIES}
-    x = {place: Fraction(s, 12000) for place, s in sums.items()}
-    x[CLASS_3_CO] = Fraction(sums[FUEL[3], CO] * 72, 1200000)
+    trip, temps, *days = head
+    weights, whole = month_weights(days)
+    months = list(zip(weights, temps))
+    sums = {(f, q): sum(w * cold_share(trip, t) * cold_excess(f, q, t) for w, t in months) for f in FUELS for q in QUANTITIES}
+    x = {place: Fraction(s, 1000 * whole) for place, s in sums.items()}
+    x[CLASS_3_CO] = Fraction(sums[FUEL[3], CO] * 72, 100000 * whole)
     return x
 
 
@@ -176,13 +219,20 @@ def first(grounds):
     return next((number for number, fits in grounds if fits), 0)
 
 
+def head_number(head):
+    """1, 2, and of a dated head 19, 20. Days as they are written are in the order of the calendar."""
+    trip, temps, *days = head
+    return first([(1, not 10 <= trip <= 200),
+                  (2, any(not -300 <= t <= 400 for t in temps)),
+                  (19, any(day not in PLACE for day in days)),
+                  (20, days != sorted(days) or len({day // 10000 for day in days}) > 1)])
+
+
 def open_run(head):
-    """head = (L, twelve T). The number and the run (of zeros where refused)."""
-    trip, temps = head
-    number = first([(1, not 10 <= trip <= 200), (2, any(not -300 <= t <= 400 for t in temps))])
-    run = Run()
+    """The number and the run (of zeros where refused)."""
+    number, run = head_number(head), Run()
     if number == 0:
-        run.trip = trip
+        run.trip = head[0]
         run.x = {name: half_up(x) for name, x in unrounded_x(head).items()}
     return number, run
 
@@ -222,7 +272,7 @@ def with_record(run, record, times):
 
 
 def add_list(head, numbers):
-    """The number (10 where the numbers are not nine a record, then 1, 2), how many records were taken, the place (from 1) and
+    """The number (10 where the numbers are not nine a record, then the head's), how many records were taken, the place (from 1) and
     the number of the first refused one (0 and 0 for none), and the run."""
     if len(numbers) % 9 != 0:
         return 10, 0, 0, 0, Run()
@@ -398,8 +448,10 @@ def figure(run, fuel, quantity, kind):
     return number, floats
 
 
-# The widths of the numbers of line 1 (L, then T), and of the others (class, vehicles, km, shares, speeds).
+# The widths of the numbers of line 1 (L, then T; where it is dated the two days too), and of the others (class, vehicles, km,
+# shares, speeds).
 HEAD_WIDTHS = (5,) * 13
+DATED_WIDTHS = HEAD_WIDTHS + (9, 9)
 RECORD_WIDTHS = (2, 7, 7) + (4,) * 6
 
 # A number right-justified with spaces, without leading zeros; T may have a minus, not before zero.
@@ -409,8 +461,8 @@ SIGNED = re.compile(rb" *(0|-?[1-9][0-9]*)")
 
 def head_line(head):
     """Line 1 of a sheet."""
-    trip, temps = head
-    return b"".join(b"%*d" % cell for cell in zip(HEAD_WIDTHS, (trip, *temps))) + b"\n"
+    trip, temps, *days = head
+    return b"".join(b"%*d" % cell for cell in zip(DATED_WIDTHS, (trip, *temps, *days))) + b"\n"
 
 
 def record_line(record):
@@ -436,8 +488,8 @@ def line_numbers(line, widths, signed):
 def read_line(run, at, line):
     """The number of one line, counted from 1, and the run behind it."""
     if at == 1:
-        numbers = line_numbers(line, HEAD_WIDTHS, range(1, 13))
-        return (10, run) if numbers is None else open_run((numbers[0], numbers[1:]))
+        numbers = line_numbers(line, HEAD_WIDTHS, range(1, 13)) or line_numbers(line, DATED_WIDTHS, range(1, 13))
+        return (10, run) if numbers is None else open_run((numbers[0], numbers[1:13], *numbers[13:]))
     numbers = line_numbers(line, RECORD_WIDTHS, ())
     return (10, run) if numbers is None else add(run, (*numbers[:3], numbers[3:6], numbers[6:]))
 

@@ -12,6 +12,8 @@ import reference as ref
 import vectors
 
 HEAD = ref.head_line((120, [100] * 12))
+SEASON = (20260515, 20261020)
+DATED = ref.head_line((120, vectors.YEAR, *SEASON))
 RECORD = ref.record_line((2, 1000, 10000, (40, 40, 20), (20, 60, 100)))
 OTHER = ref.record_line((6, 987654, 1000, (33, 33, 34), (35, 75, 115)))
 COLD_HEAD = ref.head_line((10, [-300] * 12))
@@ -223,9 +225,14 @@ def some_head(rng):
     return rng.randint(10, 200), [rng.randint(-300, 400) for _ in range(12)]
 
 
-def some_sheet(rng, records):
+def some_dated_head(rng):
+    """The same with dates."""
+    return *some_head(rng), *vectors.some_days(rng)
+
+
+def some_sheet(rng, records, head=some_head):
     """A sheet that is taken."""
-    return ref.head_line(some_head(rng)) + b"".join(ref.record_line(vectors.some_record(rng)) for _ in range(records))
+    return ref.head_line(head(rng)) + b"".join(ref.record_line(vectors.some_record(rng)) for _ in range(records))
 
 
 def edited(rng, sheet):
@@ -269,10 +276,113 @@ def at_random(c):
         c.say("any bytes %d" % n, bytes(rng.choice(b"0123456789 -\n") if n % 2 else rng.randrange(256) for _ in range(size)))
 
 
+def dated_lines(c):
+    """Line 1 with 15 numbers: cut, with a byte more or less, with LF and CR inside; 12, 14 and 16 numbers; days of other widths."""
+    head, first, last = DATED[:65], DATED[65:74], DATED[74:83]
+    c.say("dated head alone", DATED)
+    c.say("dated head and record", DATED, RECORD)
+    c.say("dated head, three records", DATED, RECORD, OTHER, RECORD)
+    c.say("dated head without its days", head + b"\n", RECORD, OTHER)
+    c.say("dated head twice", DATED, DATED)
+    c.say("dated head behind a head", HEAD, DATED)
+    c.say("head behind a dated head", DATED, HEAD)
+    c.say("days alone", first + last + b"\n", RECORD)
+    c.say("days in a line of their own", HEAD, first + last + b"\n")
+    c.say("84 bytes, LF at 66", HEAD, first[:8] + last + b"\n", RECORD)
+    shapes = {
+        "12 numbers": head[:60],
+        "14 numbers": head + first,
+        "16 numbers": head + first + last + last,
+        "16 numbers, the last of width 5": head + first + last + b"  100",
+        "14 temperatures": head + b"  100  100",
+        "days of width 5": head + b"    0    0",
+        "days of width 8": head + first[1:] + last[1:],
+        "days of width 8 and 10": head + first[1:] + b" " + last,
+        "days of width 10 and 8": head + b" " + first + last[1:],
+        "days of width 10": head + b" " + first + b" " + last,
+        "days before L": first + last + head,
+        "days before the temperatures": head[:5] + first + last + head[5:],
+        "days as blanks": head + b" " * 18,
+        "first day as blanks": head + b" " * 9 + last,
+        "last day as blanks": head + first + b" " * 9,
+        "days left-justified": head + b"20260515 20261020 ",
+        "days joined": head + b"  2026051520261020",
+        "days with points": head + b"2026.05.12026.10.2",
+        "days with noughts in front": head + b"020260515020261020",
+        "days 0 and 0": head + b"        0        0",
+        "days 00 and 0": head + b"       00        0",
+    }
+    for label, line in shapes.items():
+        c.say(label, line + b"\n", RECORD)
+    for n in (0, 1, 5, 30, *range(59, len(DATED))):
+        c.say("dated head cut to %d" % n, DATED[:n])
+        c.say("dated head cut to %d, LF" % n, DATED[:n] + b"\n", RECORD)
+        c.say("dated head, a space more at %d" % n, DATED[:n] + b" " + DATED[n:], RECORD)
+        c.say("dated head, a byte less at %d" % n, DATED[:n] + DATED[n + 1:], RECORD)
+        c.say("dated head, LF at %d" % (n + 1), DATED[:n] + b"\n" + DATED[n + 1:], RECORD)
+    c.say("dated head, CR LF", DATED[:-1] + b"\r\n", RECORD)
+    for one in (b"\r", b" ", b"0", b"\x00"):
+        c.say("dated head, %r for its LF" % one, DATED[:-1] + one, RECORD)
+    c.say("dated head, CR at 66", DATED[:65] + b"\r" + DATED[66:], RECORD)
+    c.say("dated head, CR LF at 66", DATED[:65] + b"\r\n" + DATED[67:], RECORD)
+    for byte in range(256):
+        one = bytes([byte])
+        c.say("byte %d at 66" % byte, DATED[:65] + one + DATED[66:], RECORD)
+        c.say("byte %d ends the first day" % byte, replaced(DATED, ref.DATED_WIDTHS, 13, b" 2026051" + one))
+        c.say("byte %d before the last day" % byte, replaced(DATED, ref.DATED_WIDTHS, 14, one + b"20261020"))
+    for place, name in ((13, "first day"), (14, "last day"), (12, "T12 of a dated head")):
+        for form in forms(ref.DATED_WIDTHS[place]):
+            c.say("%s %r" % (name, form), replaced(DATED, ref.DATED_WIDTHS, place, form), RECORD)
+
+
+def days(c):
+    """Days that are none, in an order that is none, in both places; 10, 1, 2, 19, 20 in this order; days that are taken."""
+    def say(first, last, trip=120, temps=vectors.YEAR):
+        head = trip, temps, first, last
+        c.say("L %d, T1 %d, T12 %d, days %d %d" % (trip, temps[0], temps[11], first, last), ref.head_line(head), RECORD)
+        return ref.head_number(head)
+
+    for day in (0, *(day for day in vectors.NO_DAYS if day < 10**9)):
+        for pair in ((day, SEASON[1]), (SEASON[0], day), (day, day)):
+            assert say(*pair) == 19
+    for year in (1980, 1996, 1997, 2000, 2099, 2100):
+        for month_day in (101, 131, 201, 228, 229, 230, 301, 430, 431, 1231, 1232):
+            say(year * 10000 + month_day, year * 10000 + month_day)
+            say(year * 10000 + 101, year * 10000 + month_day)
+            say(year * 10000 + month_day, year * 10000 + 1231)
+    for pair in ((20260516, 20260515), (20261231, 20260101), (20261231, 20270101), (20260515, 20270515), (20270515, 20260515)):
+        assert say(*pair) == 20
+    hot, icy = [401] + vectors.YEAR[1:], vectors.YEAR[:11] + [-301]
+    for number, first, last, trip, temps in ((1, 0, 0, 9, [401] * 12), (1, 20260516, 20260515, 201, vectors.YEAR), (2, 0, 0, 120, hot),
+                                             (2, 20260516, 20260515, 120, icy), (19, 20260631, 20260515, 120, vectors.YEAR),
+                                             (19, 20260516, 20250229, 120, vectors.YEAR), (20, 20260516, 20260515, 120, vectors.YEAR)):
+        assert say(first, last, trip, temps) == number
+        line = ref.head_line((trip, temps, first, last))
+        # the shape comes before all, the head before its records
+        c.say("%d behind a wrong shape" % number, line[:-2] + b" \n", RECORD)
+        c.say("%d behind a wrong L" % number, b"  012" + line[5:], RECORD)
+        c.say("%d before a bad record" % number, line, BAD[3])
+        c.say("%d before a line of wrong shape" % number, line, BAD[10])
+    for number, line in BAD.items():
+        c.say("%d behind a dated head" % number, DATED, RECORD, line)
+    for n in (1596, 1597):
+        c.say("dated head, %d records" % n, DATED, (n, RECORD))
+    c.say("dated head, 65536 bytes", DATED, (1596, RECORD), (16, b" "))
+    rng = random.Random(1231)
+    for n in range(40):
+        c.say("any dated sheet %d" % n, some_sheet(rng, rng.randint(0, 6), some_dated_head))
+    for n in range(300):
+        sheet = some_sheet(rng, rng.randint(1, 2), some_dated_head)
+        for _ in range(rng.choice((1, 1, 1, 2))):
+            # in line 1 more often than elsewhere
+            sheet = edited(rng, sheet[:84]) + sheet[84:] if n % 3 else edited(rng, sheet)
+        c.say("edit of a dated sheet %d" % n, sheet or b"\n")
+
+
 def cases():
     """Every label with the parts of its sheet."""
     c = Cases()
-    for part in (lines, head_fields, record_fields, field_forms, bytes_anywhere, grounds, sizes, at_random):
+    for part in (lines, head_fields, record_fields, field_forms, bytes_anywhere, grounds, sizes, at_random, dated_lines, days):
         part(c)
     return c.list
 

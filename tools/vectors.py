@@ -6,7 +6,7 @@
 A case is a line: a call and its numbers. The answers come from tools/reference.py, which shares
 nothing with the Rattle code. Each list of totals is also held against demand 3's tally.
 
-    open L T..                                      number
+    open L T.. FIRST LAST                           number; the days are 0 and 0 for a head without dates
     add TIMES CLASS VEHICLES KM SHARES.. SPEEDS..   number of the last add, record count
     set FIELD INDEX VALUE                           nothing; a field of the run changed by hand
     total FUEL QUANTITY                             number, grams
@@ -16,6 +16,7 @@ nothing with the Rattle code. Each list of totals is also held against demand 3'
     list                                            number and grams of the four kinds and the total of each fuel and quantity
     fields                                          every field of the run
 """
+import datetime
 import itertools
 import math
 import os
@@ -30,6 +31,8 @@ MAX = 2**64 - 1
 TRIP, X, COUNT, KM, GRAMS, REST = range(6)
 PLACES = [(f, q, k) for f in ref.FUELS for q in ref.QUANTITIES for k in ref.KINDS]
 MILD = [100] * 12
+# No two months alike, so that X tells which of them weigh.
+YEAR = [-50, -20, 10, 60, 110, 150, 180, 175, 130, 80, 30, -10]
 EXAMPLE = (2, 1000, 10000, (40, 40, 20), (20, 60, 100))
 
 
@@ -42,8 +45,8 @@ class Cases:
     def say(self, *words):
         self.lines.append(" ".join(str(w) for w in words))
 
-    def open(self, trip, temps):
-        self.say("open", trip, *temps)
+    def open(self, trip, temps, first=0, last=0):
+        self.say("open", trip, *temps, first, last)
 
     def add(self, record, times=1):
         cls, vehicles, km, shares, speeds = record
@@ -512,6 +515,188 @@ def full_runs(c):
             c.say("balance", fuel, quantity, (270000000, 90000000, 39999999)[fuel - 1])
 
 
+# What is no day: years, months and days beside those of the calendar, too few and too many digits, and numbers of which a part is
+# a day.
+NO_DAYS = (1, 31, 131, 1231, 10101, 1980, 198001, 1980101, 202605, 2026515, 202605150, 120260515, 19790101, 19791231, 21010101,
+           21011231, 99991231, 19000228, 22000101, 20260015, 20261315, 20260500, 20260532, 20260599, 20260431, 20260631, 20260931,
+           20261131, 20269999, 999999999, 10**9 + 20260515, 2**32 + 20260515, 2**33 + 20260515, 2**63 + 20260515,
+           2**64 - 2**32 + 20260515, 2**63 - 1, MAX)
+
+
+def one_day(c):
+    """Periods of one day at the ends of every month, and beside them; leap years, and years that are none."""
+    for year in (1980, 1996, 1997, 2000, 2096, 2100):
+        for month in range(14):
+            for day in (0, 1, 28, 29, 30, 31, 32, 99):
+                date = year * 10000 + month * 100 + day
+                c.open(120, YEAR, date, date)
+                if year in (1997, 2000) and date in ref.PLACE:
+                    c.say("fields")
+    for year in range(1980, 2101):
+        c.open(120, YEAR, year * 10000 + 229, year * 10000 + 229)
+    # one day is all that weighs: the X of its month
+    for month in range(1, 13):
+        t = YEAR[month - 1]
+        assert ref.open_run((120, YEAR, 20260001 + 100 * month, 20260001 + 100 * month))[1].x == ref.open_run((120, [t] * 12))[1].x
+
+
+def no_days(c):
+    """19 as the first, as the last, as both. Days 0 and 0 are none, so that head is taken; a 0 beside another number is 19."""
+    for day in (0, *NO_DAYS):
+        for days in ((day, 20260515), (20260515, day), (day, day), (day, 0), (0, day)):
+            c.open(120, YEAR, *days)
+    c.open(120, YEAR, 0, 0)
+    c.say("fields")
+    c.open(120, YEAR, 20260515, 0)
+    c.say("fields")
+    # the first and the last day there is
+    for days in ((19800101, 19800101), (19800101, 19801231), (21000101, 21001231), (21001231, 21001231), (19791231, 19800101),
+                 (21001231, 21010101)):
+        c.open(120, YEAR, *days)
+        c.say("fields")
+
+
+def day_order(c):
+    """20 and what is beside it; 19 before 20; 1 and 2 before both, also for a T of a month that has no day of the period."""
+    wrong = ((20260516, 20260515), (20260601, 20260531), (20261231, 20260101), (20000229, 20000228), (20000301, 20000229),
+             (20261231, 20270101), (20260515, 20270515), (20260515, 20270516), (20270515, 20260515), (20260515, 20250516),
+             (19991231, 20000101), (19800101, 21001231), (21001231, 19800101))
+    for days in wrong:
+        assert ref.head_number((120, YEAR, *days)) == 20
+        c.open(120, YEAR, *days)
+        c.say("fields")
+    for days in ((20260515, 20260515), (20260515, 20260516), (20260531, 20260601), (20260101, 20261231), (20000228, 20000229),
+                 (20000229, 20000301)):
+        assert ref.head_number((120, YEAR, *days)) == 0
+        c.open(120, YEAR, *days)
+        c.say("fields")
+    for days in ((20260631, 20260515), (20260516, 20260500), (20270229, 20260101), (20260515, 20270229), (21010101, 20260101),
+                 (20260101, 19791231), (20261301, 20260101), (MAX, 1), (MAX, 20260515), (1, MAX)):
+        assert ref.head_number((120, YEAR, *days)) == 19
+        c.open(120, YEAR, *days)
+    for trip in (9, 120, 201):
+        for temps in (YEAR, [401] + YEAR[1:], YEAR[:5] + [-301] + YEAR[6:], YEAR[:11] + [401]):
+            for days in ((0, 0), (20260515, 20260620), (20260515, 20260631), (20260620, 20260515), (0, 20260515), (MAX, MAX)):
+                c.open(trip, temps, *days)
+
+
+def periods(c):
+    """X by the days of each month: every pair of months, parts of one, February, whole years, and T alike in all months."""
+    for first_month in range(1, 13):
+        for last_month in range(first_month, 13):
+            year = (1996, 1997, 2026, 2100)[(first_month + last_month) % 4]
+            c.open(77, YEAR, year * 10000 + first_month * 100 + 3 + 2 * last_month, year * 10000 + last_month * 100 + 28)
+            c.say("fields")
+    february = [(year * 10000 + first, year * 10000 + last) for year in (1996, 1997, 2000, 2100)
+                for first, last in ((201, 228), (201, 301), (228, 301), (131, 301), (101, 301), (228, 1231))]
+    leap = [(year * 10000 + first, year * 10000 + last) for year in (1996, 2000)
+            for first, last in ((201, 229), (229, 229), (228, 229), (229, 301))]
+    parts = [(20260501, 20260531), (20260510, 20260520), (20260501, 20260502), (20260530, 20260531), (20260430, 20260601),
+             (20260402, 20260430)]
+    for days in parts + february + leap:
+        c.open(41, YEAR, *days)
+        c.say("fields")
+    # a whole year by dates is not a head without dates, and 366 days are not 365
+    seen = []
+    for days in ((), (19970101, 19971231), (20260101, 20261231), (21000101, 21001231), (19800101, 19801231), (20000101, 20001231)):
+        c.open(120, YEAR, *days)
+        c.say("fields")
+        seen.append(list(ref.open_run((120, YEAR, *days))[1].x.values()))
+    assert seen[1] == seen[2] == seen[3] and seen[4] == seen[5] and len({seen[i][0] for i in (0, 1, 4)}) == 3
+    # alike in all months, the period does not matter; the largest X and the smallest
+    for trip, t in ((120, 100), (10, -300), (200, 400), (10, 300), (11, -75)):
+        for days in ((), (20260704, 20260704), (20260515, 20261020), (19960101, 19961231)):
+            c.open(trip, [t] * 12, *days)
+            c.say("fields")
+            assert ref.open_run((trip, [t] * 12, *days))[1].x == ref.open_run((trip, [t] * 12))[1].x
+    # cold where the road is open and warm where it is closed, and the other way round
+    for inside, outside in ((-300, 400), (400, -300)):
+        head = 10, [outside] * 4 + [inside] * 6 + [outside] * 2, 20260515, 20261020
+        c.open(*head)
+        c.say("fields")
+        assert ref.open_run(head)[1].x == ref.open_run((10, [inside] * 12))[1].x
+
+
+# Dated heads by what their X of gasoline CO shows: the sum exactly at a half; that of class 3 exactly at a half; 72/100 of the
+# rounded X one more than the X of class 3; one less.
+AT_A_HALF = [
+    (90, (-65, 9, 50, 46, 93, 135, 189, 173, 92, 86, 43, -29), 20260704, 20260704),
+    (135, (-62, -11, 18, 61, 107, 184, 176, 215, 93, 41, 26, 1), 20260515, 20261020),
+    (170, (-67, -48, 25, 83, 84, 132, 142, 205, 103, 100, 23, -15), 19960101, 19961231),
+    (90, (-16, 4, -5, 79, 148, 174, 146, 158, 122, 54, -3, -28), 19970101, 19971231),
+    (28, (-28, -48, 49, 64, 105, 162, 167, 195, 157, 90, 1, -41), 20000229, 20000301),
+]
+CLASS_3_AT_A_HALF = [
+    (105, (-41, 0, -11, 90, 102, 124, 175, 155, 126, 70, -6, 11), 20260704, 20260704),
+    (115, (-11, -19, 44, 40, 128, 186, 187, 168, 145, 41, 57, -33), 20260515, 20261020),
+    (115, (-65, -19, -15, 96, 78, 148, 186, 176, 147, 77, 65, -2), 19960101, 19961231),
+    (115, (-86, -27, -7, 31, 142, 137, 183, 198, 107, 101, 63, -26), 19970101, 19971231),
+]
+TWICE_IS_MORE = [
+    (90, (-65, 9, 50, 46, 93, 135, 189, 173, 92, 86, 43, -29), 20260704, 20260704),
+    (99, (-78, -51, 0, 82, 81, 170, 146, 166, 96, 103, 40, -43), 20260515, 20261020),
+    (98, (-56, -54, 37, 59, 77, 149, 141, 207, 104, 70, -2, -34), 19960101, 19961231),
+]
+TWICE_IS_LESS = [
+    (128, (-46, 5, 15, 87, 102, 169, 153, 210, 137, 77, -6, 5), 20260704, 20260704),
+    (151, (-76, -43, 9, 81, 81, 143, 191, 175, 106, 56, 58, -40), 20260515, 20261020),
+    (52, (-50, -46, 16, 79, 95, 120, 155, 152, 157, 55, 9, 5), 19970101, 19971231),
+]
+
+
+def dated_rounding(c):
+    """X and the X of CO of class 3 at their halves under dated heads, each rounded once; classes 3 and 2 beside each other."""
+    for head in AT_A_HALF:
+        assert ref.unrounded_x(head)[1, ref.CO] % 1 == Fraction(1, 2)
+    for head in CLASS_3_AT_A_HALF:
+        assert ref.unrounded_x(head)[ref.CLASS_3_CO] % 1 == Fraction(1, 2)
+    for heads, missed in ((TWICE_IS_MORE, 1), (TWICE_IS_LESS, -1)):
+        for head in heads:
+            x = ref.open_run(head)[1].x
+            assert ref.half_up(Fraction(x[1, ref.CO] * 72, 100)) == x[ref.CLASS_3_CO] + missed
+    for head in AT_A_HALF + CLASS_3_AT_A_HALF + TWICE_IS_MORE + TWICE_IS_LESS:
+        c.open(*head)
+        c.say("fields")
+        for cls in (3, 2):
+            # K at its limit and the largest E of CO of both classes, so that cold grams show the last digit of X
+            c.add((cls, 1000000, 1000, (40, 40, 20), (130, 60, 100)))
+            c.say("list")
+    c.open(*tight_list.DATED_HEAD)
+    c.add(tight_list.RECORD, 2)
+    c.say("list")
+    c.add(tight_list.RECORD, 4999)
+    c.say("fields")
+    c.say("list")
+
+
+def some_days(rng):
+    """The first and the last day of a period within the limits."""
+    days = rng.choice(ref.CALENDAR), rng.choice(ref.CALENDAR)
+    year = days[0] // 10000 * 10000
+    if rng.random() < 0.3:
+        return year + 101, year + 1231
+    # both in one year: 29 February is none of every year
+    return tuple(sorted(day if day in ref.PLACE else day - 1 for day in (days[0], year + days[1] % 10000)))
+
+
+def any_period(c):
+    """Dated heads and records at random within the limits, all classes among them; then a full run."""
+    rng = random.Random(2100)
+    for _ in range(60):
+        c.open(rng.randint(10, 200), [rng.randint(-300, 400) for _ in range(12)], *some_days(rng))
+        for _ in range(rng.randint(1, 12)):
+            c.add(some_record(rng), rng.choice((1, 1, 2, 5)))
+        c.say("fields")
+        c.say("list")
+    c.open(58, YEAR, 20260515, 20261020)
+    for cls in range(1, 8):
+        c.add((cls, 1000 + cls, 9876, (38, 41, 21), (19 + cls, 67, 113)), 715)
+    c.say("fields")
+    c.say("list")
+    c.say("report", 1600)
+    c.say("balance", 1, 1, 10)
+
+
 def any_order(c):
     """The same records in two orders, refused ones between: the same report."""
     rng = random.Random(8)
@@ -552,7 +737,8 @@ def cases():
     """Every line of standard input."""
     c = Cases()
     for part in (example, grounds, head_limits, record_limits, several_wrong, questions, classes, warm, balances, digits,
-                 rounding, below_half, class_3, order, full_runs, any_order, anything):
+                 rounding, below_half, class_3, order, full_runs, any_order, anything,
+                 one_day, no_days, day_order, periods, dated_rounding, any_period):
         part(c)
     return c.lines
 
@@ -576,9 +762,10 @@ class Answers:
         # The digits worked of taken balances, and whether the division ends there.
         self.worked = set()
 
-    def open(self, trip, *temps):
-        number, self.run = ref.open_run((trip, temps))
-        self.head, self.records = ((trip, temps) if number == 0 else None), []
+    def open(self, trip, *rest):
+        head = ref.lent_head(trip, rest[:12], *rest[12:])
+        number, self.run = ref.open_run(head)
+        self.head, self.records = (head if number == 0 else None), []
         return [number]
 
     def add(self, times, cls, vehicles, km, *rest):
@@ -662,7 +849,28 @@ def write_lines(program, lines, answers):
     write(program, "".join(line + "\n" for line in lines).encode(), "".join(answers.line(line) for line in lines).encode())
 
 
+def same_calendar():
+    """The reference's calendar is that of Python's library, and so are the days of each month in periods at random."""
+    day, days = datetime.date(1980, 1, 1), []
+    while day <= datetime.date(2100, 12, 31):
+        days.append(day)
+        day += datetime.timedelta(1)
+    assert ref.CALENDAR == [int(day.strftime("%Y%m%d")) for day in days]
+    rng = random.Random(19)
+    for _ in range(2000):
+        first, last = some_days(rng)
+        begin, end = (datetime.datetime.strptime(str(day), "%Y%m%d").date() for day in (first, last))
+        weights, whole = ref.month_weights((first, last))
+        assert begin <= end and begin.year == end.year and whole == (end - begin).days + 1 == sum(weights)
+        for month, weight in enumerate(weights, 1):
+            # from the month's first day on, less from the next month's first day on
+            starts = datetime.date(begin.year, month, 1), datetime.date(begin.year + month // 12, month % 12 + 1, 1)
+            from_on = [max(0, (end - max(begin, start)).days + 1) for start in starts]
+            assert weight == from_on[0] - from_on[1]
+
+
 def main():
+    same_calendar()
     answers = Answers()
     write_lines("vectors", cases(), answers)
     # no case of the digits is lost: 6 to 12, and 12 where there is none

@@ -384,14 +384,14 @@ fn limits(held: &mut Held, r: &mut Random, behind: usize, small: bool) {
     };
     for (trip, fits) in [(10, false), (200, false), (9, true), (201, true)] {
         let mut lent = base(r, [20; 16]);
-        let found = open(held, &mut lent, &plain::Head { trip, temps: [100; 12] });
+        let found = open(held, &mut lent, &plain::Head::year(trip, [100; 12]));
         edge(held, 1, fits, found, 0);
-        assert_eq!(open(held, &mut lent, &plain::Head { trip: 9, temps: temps(3, 401) }), 1);
+        assert_eq!(open(held, &mut lent, &plain::Head::year(9, temps(3, 401))), 1);
     }
     for month in 0..12 {
         for (t, fits) in [(-300, false), (400, false), (-301, true), (401, true)] {
             let mut lent = base(r, [300; 16]);
-            let found = open(held, &mut lent, &plain::Head { trip: 120, temps: temps(month, t) });
+            let found = open(held, &mut lent, &plain::Head::year(120, temps(month, t)));
             edge(held, 2, fits, found, 0);
             if fits {
                 // areas of zeros are in order for no call
@@ -399,6 +399,31 @@ fn limits(held: &mut Held, r: &mut Random, behind: usize, small: bool) {
                 assert_eq!((add(held, &mut lent, month as u64, &record), ask_run(held, &lent, month as u64).0), (16, 16));
             }
         }
+    }
+    // 19 and 20, over areas in use, behind 1 and 2
+    for (number, fits, days) in [
+        (19, false, [19_800_101, 19_801_231]),
+        (19, false, [21_000_101, 21_001_231]),
+        (19, false, [20_000_229, 20_000_229]),
+        (19, true, [19_791_231, 19_800_101]),
+        (19, true, [21_001_231, 21_010_101]),
+        (19, true, [21_000_229, 21_000_301]),
+        (19, true, [20_260_501, 20_260_532]),
+        (19, true, [0, 20_260_501]),
+        (19, true, [20_260_631, 20_260_501]),
+        (20, false, [20_260_501, 20_260_501]),
+        (20, false, [20_260_430, 20_260_501]),
+        (20, true, [20_260_501, 20_260_430]),
+        (20, true, [20_261_231, 20_270_101]),
+        (20, true, [20_260_501, 20_250_501]),
+    ] {
+        let dated = |trip, temps| plain::Head { trip, temps, days: Some(days) };
+        let mut lent = base(r, [300; 16]);
+        let found = open(held, &mut lent, &dated(120, [100; 12]));
+        edge(held, number, fits, found, 0);
+        let record = any_record(r);
+        assert_eq!(add(held, &mut lent, 3, &record) == 16, fits);
+        assert_eq!([open(held, &mut lent, &dated(9, [401; 12])), open(held, &mut lent, &dated(120, temps(7, 401)))], [1, 2]);
     }
     // 3 to 8 in an area that takes and in a full one; 17 and 16 before them
     for (number, fits, record) in record_limits() {

@@ -9,6 +9,7 @@ mod areas;
 mod digits;
 #[path = "../../include/haldurap.rs"]
 mod haldurap;
+mod periods;
 mod random;
 mod reference;
 
@@ -20,7 +21,9 @@ use std::fmt::Debug;
 // ---- The same values on both sides
 
 fn c_head(head: &plain::Head) -> c::Head {
-    c::Head { trip: head.trip, temps: head.temps }
+    assert_ne!(head.days, Some([0; 2]), "in C days 0 and 0 are none");
+    let [first, last] = head.days.unwrap_or([0; 2]);
+    c::Head { trip: head.trip, temps: head.temps, first, last }
 }
 
 fn c_record(r: &plain::Record) -> c::Record {
@@ -87,7 +90,7 @@ fn limit(i: usize, count: u64) -> u64 {
 // ---- Counting
 
 /// None, and the numbers of refusals.
-const NUMBERS: usize = 19;
+const NUMBERS: usize = 21;
 
 const CALLS: [&str; 25] = [
     "layout", "open", "add", "total", "urban", "rural", "highway", "cold", "balance", "co2", "so2", "lead", "map_row",
@@ -131,6 +134,9 @@ struct Held {
     edits: [[u64; NUMBERS]; random::EDITS.len()],
     areas: areas::Tried,
     digits: digits::Tried,
+    periods: periods::Tried,
+    /// Totals held against exact sums.
+    near: u64,
     differences: u64,
 }
 
@@ -186,6 +192,17 @@ fn add(held: &mut Held, ours: &mut c::Run, theirs: &mut plain::Run, record: &pla
     held.same(ADD, number, answer, c::RunAnswer { number, run: c_run(theirs) }, || format!("{record:?} to {before:?}"));
     *ours = answer.run;
     number
+}
+
+/// The archive's totals of a run against the exact sums of its list.
+fn ask_distance(held: &mut Held, ours: c::Run, tally: &plain::Tally) {
+    for (fuel, quantity) in (0..3).flat_map(|fuel| (0..5).map(move |quantity| (fuel, quantity))) {
+        let answer = c::haldurap_total(ours, fuel as u64 + 1, quantity as u64 + 1);
+        held.near += 1;
+        if answer.number != 0 || !tally.is_near(fuel, quantity, answer.grams) {
+            held.differ(|| format!("{answer:?} of fuel {} quantity {} is too far from the exact sum, in {ours:?}", fuel + 1, quantity + 1));
+        }
+    }
 }
 
 fn any_record(r: &mut Random) -> plain::Record {
@@ -250,9 +267,13 @@ fn lists(held: &mut Held, r: &mut Random, times: u64, small: bool) {
     // every length up to three records, with a head that is taken and one that is not
     let numbers = list(r, 3, 0);
     for n in 0..=numbers.len() {
-        ask_list(held, &plain::Head { trip: 10, temps: [-300; 12] }, &numbers[..n]);
-        ask_list(held, &plain::Head { trip: 9, temps: [401; 12] }, &numbers[..n]);
-        ask_list(held, &plain::Head { trip: 200, temps: [401; 12] }, &numbers[..n]);
+        ask_list(held, &plain::Head::year(10, [-300; 12]), &numbers[..n]);
+        ask_list(held, &plain::Head::year(9, [401; 12]), &numbers[..n]);
+        ask_list(held, &plain::Head::year(200, [401; 12]), &numbers[..n]);
+        // 10 before the head's own numbers; a day that is none, days in a wrong order, days that are taken
+        for days in [[20_260_431, 20_260_501], [20_260_501, 20_260_430], [20_260_430, 20_260_501]] {
+            ask_list(held, &plain::Head { days: Some(days), ..plain::Head::year(120, [100; 12]) }, &numbers[..n]);
+        }
     }
     // one refused record of each number, at the first, a middle and the last place, and only such ones
     let good = numbers_of_example();
@@ -261,10 +282,10 @@ fn lists(held: &mut Held, r: &mut Random, times: u64, small: bool) {
             let mut numbers = good.repeat(before);
             numbers.extend(bad);
             numbers.extend(good.repeat(behind));
-            ask_list(held, &plain::Head { trip: 120, temps: [100; 12] }, &numbers);
+            ask_list(held, &plain::Head::year(120, [100; 12]), &numbers);
         }
         for other in bad_records() {
-            ask_list(held, &plain::Head { trip: 120, temps: [100; 12] }, &[good, bad, other, good].concat());
+            ask_list(held, &plain::Head::year(120, [100; 12]), &[good, bad, other, good].concat());
         }
     }
     // full runs: the last record that is taken, the first that is not, and those behind it
@@ -274,21 +295,21 @@ fn lists(held: &mut Held, r: &mut Random, times: u64, small: bool) {
             let head = random::good_head(r);
             ask_list(held, &head, &numbers);
         }
-        ask_list(held, &plain::Head { trip: 120, temps: [100; 12] }, &good.repeat(n));
+        ask_list(held, &plain::Head::year(120, [100; 12]), &good.repeat(n));
         // a refused record before the run is full: its place, and one record more is taken
         let mut numbers = good.repeat(n);
         numbers[9 * 2500 + 8] = 131;
-        ask_list(held, &plain::Head { trip: 120, temps: [100; 12] }, &numbers);
+        ask_list(held, &plain::Head::year(120, [100; 12]), &numbers);
         numbers.pop();
-        ask_list(held, &plain::Head { trip: 120, temps: [100; 12] }, &numbers);
+        ask_list(held, &plain::Head::year(120, [100; 12]), &numbers);
     }
     // behind a full run a refused record is told by its own number, and not by 9
     for bad in bad_records() {
-        ask_list(held, &plain::Head { trip: 120, temps: [100; 12] }, &[good.repeat(5000), bad.to_vec(), good.to_vec()].concat());
+        ask_list(held, &plain::Head::year(120, [100; 12]), &[good.repeat(5000), bad.to_vec(), good.to_vec()].concat());
     }
     // the largest sums that a list can give
     let most = [6, 1_000_000, 1000, 100, 0, 0, 130, 130, 130];
-    ask_list(held, &plain::Head { trip: 10, temps: [-300; 12] }, &most.repeat(5001));
+    ask_list(held, &plain::Head::year(10, [-300; 12]), &most.repeat(5001));
 }
 
 fn numbers_of_example() -> [u64; 9] {
@@ -361,7 +382,7 @@ fn one_x(held: &mut Held, r: &mut Random, run: c::Run, place: usize) {
 
 /// Every class on every road at every speed: by adds, as a list and as a sheet. How many runs were added to.
 fn every_factor(held: &mut Held, r: &mut Random) -> u64 {
-    let head = plain::Head { trip: 120, temps: [100; 12] };
+    let head = plain::Head::year(120, [100; 12]);
     for class in 1..=7 {
         let mut records = Vec::new();
         for (road, speed) in (0..3).flat_map(|road| (10..=130).map(move |speed| (road, speed))) {
@@ -620,16 +641,18 @@ fn sheets(held: &mut Held, r: &mut Random, times: u64) {
         text.resize(n, b' ');
         ask_sheet(held, r, &text, 8);
     }
-    // every length of the front of a sheet
-    let text = random::sheet(r, 2, 0);
-    for n in 0..=text.len() {
-        ask_sheet(held, r, &text[..n], 6);
+    // every length of the front of a sheet, in both forms of its first line
+    for head in [random::undated_head(r), random::dated_head(r)] {
+        let text = random::sheet_under(r, &head, 2);
+        for n in 0..=text.len() {
+            ask_sheet(held, r, &text[..n], 6);
+        }
     }
-    // every byte value at every place of a sheet
-    let places = if times > 100_000 { 0..148 } else { 100..104 };
-    let text = random::sheet(r, 2, 0);
-    for i in places {
-        for b in 0..=255 {
+    // every byte value at every place of a sheet, and at those of the days in a first line
+    let places = if times > 100_000 { [0..148, 60..84] } else { [100..104, 65..67] };
+    for (places, head) in places.into_iter().zip([random::undated_head(r), random::dated_head(r)]) {
+        let text = random::sheet_under(r, &head, 2);
+        for (i, b) in places.flat_map(|i| (0..=255).map(move |b| (i, b))) {
             let mut text = text.clone();
             text[i] = b;
             ask_sheet(held, r, &text, 2);
@@ -640,7 +663,7 @@ fn sheets(held: &mut Held, r: &mut Random, times: u64) {
 // ---- The numbers that SPECIFICATION, "Figures", prints
 
 fn printed_numbers(held: &mut Held) {
-    let head = plain::Head { trip: 120, temps: [100; 12] };
+    let head = plain::Head::year(120, [100; 12]);
     let record = plain::Record { class: 2, vehicles: 1000, km: 10_000, shares: [40, 40, 20], speeds: [20, 60, 100] };
     let (mut ours, mut theirs) = open(held, &head).expect("the head of the figures");
     assert_eq!(add(held, &mut ours, &mut theirs, &record), 0);
@@ -668,9 +691,14 @@ fn printed_numbers(held: &mut Held) {
     let mut r = Random(1);
     ask_all(held, &mut r, ours, &theirs);
     ask_sheet(held, &mut r, &sheet, 0);
+    // the same T in every month: whatever the period, the same X
+    for days in [[20_000_229; 2], [20_260_515, 20_261_020], [20_000_101, 20_001_231], [21_000_101, 21_001_231]] {
+        let dated = plain::Head { days: Some(days), ..head };
+        assert_eq!(open(held, &dated).expect("a period").1.x, theirs.x);
+    }
     // X of CO of class 3 is of the sum itself: 72/100 of the rounded X would be one more, or one less
     for (trip, t, gasoline, class_3) in [(10, -297, 4_834_859_126, 3_481_098_570), (11, -75, 2_326_636_406, 1_675_178_213)] {
-        let (_, theirs) = open(held, &plain::Head { trip, temps: [t; 12] }).expect("a head in range");
+        let (_, theirs) = open(held, &plain::Head::year(trip, [t; 12])).expect("a head in range");
         assert_eq!((theirs.x[0][0], theirs.x_class_3), (gasoline, class_3));
     }
 }
@@ -694,6 +722,8 @@ fn main() {
         edits: [[0; NUMBERS]; random::EDITS.len()],
         areas: areas::Tried::default(),
         digits: digits::Tried::default(),
+        periods: periods::Tried::default(),
+        near: 0,
         differences: 0,
     };
     println!("seed {seed}{}", if small { ", a hundredth" } else { "" });
@@ -721,13 +751,17 @@ fn main() {
         let Some((mut ours, mut theirs)) = open(&mut held, &head) else { continue };
         // now and then one class only, so that a single fuel's sums grow
         let class = r.one_in(4).then(|| r.from_to(1, 7));
+        let mut tally = plain::Tally::of(&head);
         for _ in 0..length {
             let mut record = any_record(&mut r);
             if let Some(class) = class {
                 record.class = class;
             }
-            add(&mut held, &mut ours, &mut theirs, &record);
+            if add(&mut held, &mut ours, &mut theirs, &record) == 0 {
+                tally.feed(&record);
+            }
         }
+        ask_distance(&mut held, ours, &tally);
         runs += 1;
         full += (theirs.count == 5000) as u64;
         ask_all(&mut held, &mut r, ours, &theirs);
@@ -735,12 +769,17 @@ fn main() {
     // the largest sums that adds can give: 5,000 records at the limits of K, E and X
     let classes: &[u64] = if small { &[6] } else { &[1, 2, 3, 4, 5, 6, 7] };
     for &class in classes {
-        let head = plain::Head { trip: 10, temps: [-300; 12] };
+        let days = r.one_in(2).then(|| random::period(&mut r));
+        let head = plain::Head { days, ..plain::Head::year(10, [-300; 12]) };
         let (mut ours, mut theirs) = open(&mut held, &head).expect("a head in range");
         let record = plain::Record { class, vehicles: 1_000_000, km: 1000, shares: [100, 0, 0], speeds: [r.of(&[10, 130]), 10, 130] };
+        let mut tally = plain::Tally::of(&head);
         for _ in 0..5001 {
-            add(&mut held, &mut ours, &mut theirs, &record);
+            if add(&mut held, &mut ours, &mut theirs, &record) == 0 {
+                tally.feed(&record);
+            }
         }
+        ask_distance(&mut held, ours, &tally);
         (runs, full) = (runs + 1, full + 1);
         ask_all(&mut held, &mut r, ours, &theirs);
     }
@@ -772,6 +811,7 @@ fn main() {
     runs += every_factor(&mut held, &mut r);
     areas::areas(&mut held, &mut r, small);
     digits::digits(&mut held, &mut r, 12_000 / part);
+    periods::periods(&mut held, &mut r, 15_000 / part, small);
 
     println!("runs opened and added to: {runs}, of them full: {full}; runs in order made up: {made}; runs out of order: {}", held.out_of_order);
     println!("adds: {}; sheets: {}; buffers compared whole: {}; figures not given: {}", held.of(ADD), held.of(SHEET), held.buffers, held.not_given);
@@ -779,6 +819,9 @@ fn main() {
     let [warm, cold, mixed] = held.seasons;
     println!("adds of classes 3 and 2 beside each other: {warm} in warm, {cold} in cold, {mixed} in mixed years");
     println!("balances by the digits worked: {}", held.digits.text());
+    let periods::Tried { written, days, heads } = held.periods;
+    println!("numbers like a day: {written}, of them days: {days}; dated heads at random: {heads}");
+    println!("totals held against exact sums: {}", held.near);
     let areas::Tried { lists, made, out_of_order, limits } = &held.areas;
     println!(
         "areas: {} opened, {} adds; lists until every area was full: {lists}; in order made up: {made}; out of order: {out_of_order}",

@@ -1,5 +1,5 @@
 //! Random and boundary heads, records, runs, areas and sheets.
-use crate::reference::{Areas, Head, Record, Run, Sum};
+use crate::reference::{is_day, Areas, Head, Record, Run, Sum};
 
 /// SplitMix64.
 pub struct Random(pub u64);
@@ -64,10 +64,103 @@ fn temperature(r: &mut Random) -> i64 {
     }
 }
 
-pub fn good_head(r: &mut Random) -> Head {
+/// A head without dates.
+pub fn undated_head(r: &mut Random) -> Head {
     let trip = if r.one_in(5) { r.of(&[10, 11, 199, 200]) } else { r.from_to(10, 200) };
     let same = r.one_in(10).then(|| temperature(r));
-    Head { trip, temps: std::array::from_fn(|_| same.unwrap_or_else(|| temperature(r))) }
+    Head::year(trip, std::array::from_fn(|_| same.unwrap_or_else(|| temperature(r))))
+}
+
+pub fn dated_head(r: &mut Random) -> Head {
+    Head { days: Some(period(r)), ..undated_head(r) }
+}
+
+pub fn good_head(r: &mut Random) -> Head {
+    if r.one_in(2) { dated_head(r) } else { undated_head(r) }
+}
+
+/// A day of a year as it is written.
+fn day_of(r: &mut Random, year: u64) -> u64 {
+    loop {
+        let (month, day) = match r.below(5) {
+            0 => r.of(&[(1, 1), (1, 31), (2, 28), (2, 29), (3, 1), (4, 30), (12, 1), (12, 31)]),
+            _ => (r.from_to(1, 12), r.from_to(1, 31)),
+        };
+        let written = year * 10_000 + month * 100 + day;
+        if is_day(written) {
+            return written;
+        }
+    }
+}
+
+fn any_year(r: &mut Random) -> u64 {
+    if r.one_in(3) { r.of(&[1980, 1981, 1996, 1997, 2000, 2026, 2096, 2099, 2100]) } else { r.from_to(1980, 2100) }
+}
+
+/// The first and the last day of a period that is taken.
+pub fn period(r: &mut Random) -> [u64; 2] {
+    let year = any_year(r);
+    let (one, other) = (day_of(r, year), day_of(r, year));
+    match r.below(8) {
+        0 => [year * 10_000 + 101, year * 10_000 + 1231],
+        1 => [one, one],
+        _ => [one.min(other), one.max(other)],
+    }
+}
+
+/// What is no day: beside the calendar, of too few or too many digits, or with a day as a part of it. The first ones have room in
+/// nine digits.
+const NO_DAYS: [u64; 36] = [
+    0, 1, 31, 1231, 10_101, 1980, 198_001, 1_980_101, 2_026_515, 202_605_150, 120_260_515, 19_790_101, 19_791_231, 21_010_101, 21_011_231,
+    99_991_231, 20_260_015, 20_261_315, 20_260_500, 20_260_532, 20_260_431, 20_260_631, 20_260_931, 20_261_131, 20_269_999, 19_970_229,
+    21_000_229, 20_000_230, 999_999_999, 1_000_000_000, 1_020_260_515, (1 << 32) + 20_260_515, (1 << 33) + 20_260_515,
+    (1 << 63) + 20_260_515, u64::MAX - (1 << 32) + 20_260_516, u64::MAX,
+];
+const NINE_DIGITS: usize = 29;
+
+/// A number that is no day.
+fn no_day(r: &mut Random, most: usize) -> u64 {
+    if r.one_in(2) {
+        return NO_DAYS[r.place(most)];
+    }
+    loop {
+        let written = r.from_to(1979, 2101) * 10_000 + r.from_to(0, 13) * 100 + r.from_to(0, 32);
+        if !is_day(written) {
+            return written;
+        }
+    }
+}
+
+/// Days of which one or both are none, of numbers up to a place of NO_DAYS (19).
+fn no_days(r: &mut Random, most: usize) -> [u64; 2] {
+    let [first, last] = period(r);
+    let none = no_day(r, most);
+    match r.below(4) {
+        0 => [none, last],
+        1 => [first, none],
+        2 => [none, none],
+        _ => [none, no_day(r, most)],
+    }
+}
+
+/// Two days, the last before the first or in another year (20).
+fn days_out_of_order(r: &mut Random) -> [u64; 2] {
+    loop {
+        let (year, other) = (any_year(r), any_year(r));
+        let [first, last] = match r.below(4) {
+            0 => [day_of(r, year), day_of(r, other)],
+            1 if year < 2100 => [year * 10_000 + 1231, year * 10_000 + 10_101],
+            _ => [day_of(r, year), day_of(r, year)],
+        };
+        if last < first || last / 10_000 != first / 10_000 {
+            return [first, last];
+        }
+    }
+}
+
+/// Days as C hands them in: 0 and 0 are none.
+fn lent(days: [u64; 2]) -> Option<[u64; 2]> {
+    (days != [0; 2]).then_some(days)
 }
 
 /// A head by where Q of gasoline CO is 0, which is from 30.0 degrees on: in every month (season 0), in none (1), in some (2).
@@ -84,18 +177,22 @@ pub fn head_of_season(r: &mut Random, season: usize) -> Head {
         (false, false) => r.below(600) as i64 - 300,
     });
     temps.rotate_left(r.place(12));
-    Head { trip: r.from_to(10, 200), temps }
+    let days = r.one_in(2).then(|| period(r));
+    Head { trip: r.from_to(10, 200), temps, days }
 }
 
 /// A head with one or more values that may be out of range.
 pub fn damaged_head(r: &mut Random) -> Head {
     let mut head = good_head(r);
     for _ in 0..r.from_to(1, 3) {
-        if r.one_in(3) {
-            head.trip = r.of(&[0, 1, 9, 10, 200, 201, 1 << 32, (1 << 32) + 100, (1 << 63) + 100, u64::MAX]);
-        } else {
-            let at = r.place(12);
-            head.temps[at] = r.of(&[-301, -300, 400, 401, i64::MIN, i64::MAX, -(1 << 32), (1 << 32) + 5, i64::MIN + 100, 1000, -1000]);
+        match r.below(6) {
+            0 | 1 => head.trip = r.of(&[0, 1, 9, 10, 200, 201, 1 << 32, (1 << 32) + 100, (1 << 63) + 100, u64::MAX]),
+            2 => head.days = lent(no_days(r, NO_DAYS.len())),
+            3 => head.days = lent(days_out_of_order(r)),
+            _ => {
+                let at = r.place(12);
+                head.temps[at] = r.of(&[-301, -300, 400, 401, i64::MIN, i64::MAX, -(1 << 32), (1 << 32) + 5, i64::MIN + 100, 1000, -1000]);
+            }
         }
     }
     head
@@ -235,6 +332,9 @@ pub fn head_line(head: &Head) -> Vec<u8> {
     for t in head.temps {
         line += &format!("{t:5}");
     }
+    for day in head.days.iter().flatten() {
+        line += &format!("{day:9}");
+    }
     (line + "\n").into_bytes()
 }
 
@@ -263,10 +363,11 @@ fn record_out_of_range(r: &mut Random) -> Record {
 /// A head whose numbers have room in their fields, with one that is out of range.
 fn head_out_of_range(r: &mut Random) -> Head {
     let mut head = good_head(r);
-    if r.one_in(2) {
-        head.trip = r.of(&[0, 9, 201, 99_999]);
-    } else {
-        head.temps[r.place(12)] = r.of(&[-9999, -301, 401, 99_999]);
+    match r.below(4) {
+        0 => head.trip = r.of(&[0, 9, 201, 99_999]),
+        1 => head.temps[r.place(12)] = r.of(&[-9999, -301, 401, 99_999]),
+        2 => head.days = Some(no_days(r, NINE_DIGITS)),
+        _ => head.days = Some(days_out_of_order(r)),
     }
     head
 }
@@ -274,19 +375,25 @@ fn head_out_of_range(r: &mut Random) -> Head {
 /// Bytes that a sheet has, and some that look like them.
 const ALPHABET: &[u8] = b"0123456789          ---\n\n+.\t\r\0/:\xa0\xb2";
 
-const WIDTHS_HEAD: [usize; 13] = [5; 13];
+/// The last two are those of a dated head.
+const WIDTHS_HEAD: [usize; 15] = [5, 5, 5, 5, 5, 5, 5, 5, 5, 5, 5, 5, 5, 9, 9];
 const WIDTHS_RECORD: [usize; 9] = [2, 7, 7, 4, 4, 4, 4, 4, 4];
+const DATED_LINE: usize = 84;
 
-/// The bounds of a field of a line.
-fn field(r: &mut Random, head: bool) -> (usize, usize) {
-    let widths: &[usize] = if head { &WIDTHS_HEAD } else { &WIDTHS_RECORD };
+/// The bounds of a field of a whole line.
+fn field(r: &mut Random, line: &[u8], head: bool) -> (usize, usize) {
+    let widths: &[usize] = match (head, line.len()) {
+        (true, DATED_LINE) => &WIDTHS_HEAD,
+        (true, _) => &WIDTHS_HEAD[..13],
+        _ => &WIDTHS_RECORD,
+    };
     let f = r.place(widths.len());
     let at: usize = widths[..f].iter().sum();
     (at, at + widths[f])
 }
 
-/// What is done to a well-formed sheet; the last two make the bytes from nothing.
-pub const EDITS: [&str; 32] = [
+/// What is done to a well-formed sheet; those of random bytes are made from nothing.
+pub const EDITS: [&str; 36] = [
     "well formed",
     "a value out of range",
     "a byte replaced",
@@ -305,7 +412,7 @@ pub const EDITS: [&str; 32] = [
     "a leading zero",
     "left-justified",
     "minus before 0",
-    "minus in L or a record",
+    "minus in L, a day or a record",
     "a plus",
     "a blank field",
     "a space inside a number",
@@ -319,17 +426,37 @@ pub const EDITS: [&str; 32] = [
     "several edits",
     "random bytes",
     "random bytes like a sheet's",
+    "a day that is none",
+    "days out of order",
+    "12, 14 or 16 numbers in the head",
+    "a byte where a head without days ends",
 ];
+
+/// A sheet of this head with n records.
+pub fn sheet_under(r: &mut Random, head: &Head, n: usize) -> Vec<u8> {
+    let mut text = head_line(head);
+    for _ in 0..n {
+        text.extend(record_line(&good_record(r)));
+    }
+    text
+}
 
 /// A sheet with n records, damaged by an edit (a place of EDITS).
 pub fn sheet(r: &mut Random, n: usize, edit: usize) -> Vec<u8> {
     let bad = if edit == 1 { r.place(n + 1) } else { n + 1 };
-    let mut lines = vec![head_line(&if bad == 0 { head_out_of_range(r) } else { good_head(r) })];
+    let head = match edit {
+        1 if bad == 0 => head_out_of_range(r),
+        32 => Head { days: Some(no_days(r, NINE_DIGITS)), ..undated_head(r) },
+        33 => Head { days: Some(days_out_of_order(r)), ..undated_head(r) },
+        34 | 35 => dated_head(r),
+        _ => good_head(r),
+    };
+    let mut lines = vec![head_line(&head)];
     for i in 0..n {
         lines.push(record_line(&if bad == i + 1 { record_out_of_range(r) } else { good_record(r) }));
     }
     match edit {
-        0 | 1 => {}
+        0 | 1 | 32 | 33 => {}
         29 => {
             let mut text = lines.concat();
             for _ in 0..r.from_to(2, 4) {
@@ -345,8 +472,8 @@ pub fn sheet(r: &mut Random, n: usize, edit: usize) -> Vec<u8> {
             let n = r.place(4);
             let mut text = Vec::new();
             for i in 0..=n {
-                let length = if i == 0 { 65 } else { 40 };
-                let length = if r.one_in(4) { r.place(80) } else { length };
+                let length = if i == 0 { r.of(&[65, 83]) } else { 40 };
+                let length = if r.one_in(4) { r.place(100) } else { length };
                 text.extend((0..length).map(|_| r.of(ALPHABET)));
                 text.push(b'\n');
             }
@@ -379,7 +506,7 @@ fn edit_lines(r: &mut Random, lines: &mut Vec<Vec<u8>>, edit: usize) {
     let j = r.place(lines.len());
     let head = i == 0;
     let at = r.place(lines[i].len());
-    let (from, to) = field(r, head);
+    let (from, to) = field(r, &lines[i], head);
     match edit {
         2 => lines[i][at] = r.next() as u8,
         3 => lines[i][at] = r.of(ALPHABET),
@@ -425,7 +552,8 @@ fn edit_lines(r: &mut Random, lines: &mut Vec<Vec<u8>>, edit: usize) {
             lines[i][from..to].copy_from_slice(zero.as_bytes());
         }
         18 => {
-            let (from, to) = if head { (0, 5) } else { (from, to) };
+            // a T may have one
+            let (from, to) = if head && to - from == 5 { (0, 5) } else { (from, to) };
             let (first, _) = digits(&lines[i], (from, to));
             if first > from {
                 lines[i][first - 1] = b'-';
@@ -448,7 +576,7 @@ fn edit_lines(r: &mut Random, lines: &mut Vec<Vec<u8>>, edit: usize) {
             lines[i].insert(k, b' ');
         }
         23 => {
-            let (from2, to2) = field(r, head);
+            let (from2, to2) = field(r, &lines[i], head);
             let (a, b) = (lines[i][from..to].to_vec(), lines[i][from2..to2].to_vec());
             if a.len() == b.len() {
                 lines[i][from..to].copy_from_slice(&b);
@@ -458,7 +586,7 @@ fn edit_lines(r: &mut Random, lines: &mut Vec<Vec<u8>>, edit: usize) {
             }
         }
         24 => {
-            let number = format!("{}", r.of(&[10_000u64, 100_000, 12_345_678, 99_999_999, u64::MAX]));
+            let number = format!("{}", r.of(&[10_000u64, 100_000, 12_345_678, 99_999_999, 1_234_567_890, u64::MAX]));
             lines[i].splice(from..to, number.into_bytes());
         }
         25 => lines[i].insert(at, b'\n'),
@@ -466,12 +594,19 @@ fn edit_lines(r: &mut Random, lines: &mut Vec<Vec<u8>>, edit: usize) {
         27 => lines[i][at] = r.of(b"aAlO\xb2\x80\xff\x0b\x0c\x30"),
         28 => {
             // a minus at the field's start, spaces behind it, then the number
-            if to - from == 5 {
+            if head {
                 lines[i][from] = b'-';
             } else {
                 lines[i][at] = b'-';
             }
         }
+        34 => match r.below(4) {
+            0 => drop(lines[0].drain(60..83)),
+            1 => drop(lines[0].drain(74..83)),
+            2 => drop(lines[0].splice(83..83, *b" 20261020")),
+            _ => drop(lines[0].splice(83..83, *b"  100")),
+        },
+        35 => lines[0][65] = r.of(b"\n\n\r 0123456789-"),
         _ => unreachable!(),
     }
 }

@@ -1,5 +1,5 @@
 //! The inventory in plain Rust: ordinary structs, u128 and i128 wherever a product might be large. Written from the
-//! customer's request ("COPERT II inventory core", its document 01, and jobs 1, 3 and 4 of document 02, of which
+//! customer's request ("COPERT II inventory core", its document 01, and jobs 1, 3, 4 and 5 of document 02, of which
 //! docs/SPECIFICATION.md says the same in our own words); lists of records and the number and line beside a text are from that
 //! page itself. Nothing here comes from the Rattle code. A refusal is its number in the table of refusals. Fuels, quantities
 //! and kinds count from 0 inside arrays and from 1 where a caller hands them in; areas count from 0.
@@ -24,6 +24,15 @@ const MOST_TEXT: usize = 65_536;
 pub struct Head {
     pub trip: u64,
     pub temps: [i64; 12],
+    /// The first and the last day as they are written, where the head is dated.
+    pub days: Option<[u64; 2]>,
+}
+
+impl Head {
+    /// A head without dates.
+    pub fn year(trip: u64, temps: [i64; 12]) -> Head {
+        Head { trip, temps, days: None }
+    }
 }
 
 #[derive(Clone, Copy, Debug, PartialEq)]
@@ -162,15 +171,50 @@ fn cold_excess(fuel: usize, quantity: usize, t: i64) -> i128 {
     }
 }
 
-/// B × Q over the twelve months.
-fn cold_sum(head: &Head, fuel: usize, quantity: usize) -> u128 {
-    let sum: i128 = head.temps.iter().map(|&t| cold_share(head.trip, t) * cold_excess(fuel, quantity, t)).sum();
+/// B × Q by the weights of the twelve months.
+fn cold_sum(head: &Head, weights: &[u64; 12], fuel: usize, quantity: usize) -> u128 {
+    let mut sum = 0;
+    for (&t, &weight) in head.temps.iter().zip(weights) {
+        sum += weight as i128 * cold_share(head.trip, t) * cold_excess(fuel, quantity, t);
+    }
     sum as u128
+}
+
+// ---- Part years
+
+/// How many days a month has by the Gregorian calendar.
+fn days_in_month(year: u64, month: u64) -> u64 {
+    let leap = year % 400 == 0 || (year % 4 == 0 && year % 100 != 0);
+    match month {
+        2 => 28 + leap as u64,
+        4 | 6 | 9 | 11 => 30,
+        _ => 31,
+    }
+}
+
+/// Whether a number is a day of the years 1980 to 2100: year × 10,000 + month × 100 + day.
+pub fn is_day(written: u64) -> bool {
+    let (year, month, day) = (written / 10_000, written / 100 % 100, written % 100);
+    (1980..=2100).contains(&year) && (1..=12).contains(&month) && (1..=days_in_month(year, month)).contains(&day)
+}
+
+/// The weight of each month: 1 without dates, else how many days it has in common with the period. In a month, days as they are
+/// written are numbers one after the other.
+pub fn month_weights(days: Option<[u64; 2]>) -> [u64; 12] {
+    let Some([first, last]) = days else { return [1; 12] };
+    let year = first / 10_000;
+    std::array::from_fn(|i| {
+        let month = i as u64 + 1;
+        let nought = year * 10_000 + month * 100;
+        let from = first.max(nought + 1);
+        let to = last.min(nought + days_in_month(year, month));
+        if from > to { 0 } else { to - from + 1 }
+    })
 }
 
 // ---- The run
 
-/// Opens a run, or refuses with 1 or 2.
+/// Opens a run, or refuses with 1, 2, 19 or 20.
 pub fn open(head: &Head) -> Result<Run, u64> {
     if !(10..=200).contains(&head.trip) {
         return Err(1);
@@ -178,13 +222,23 @@ pub fn open(head: &Head) -> Result<Run, u64> {
     if head.temps.iter().any(|t| !(-300..=400).contains(t)) {
         return Err(2);
     }
+    if let Some([first, last]) = head.days {
+        if !is_day(first) || !is_day(last) {
+            return Err(19);
+        }
+        if last < first || last / 10_000 != first / 10_000 {
+            return Err(20);
+        }
+    }
+    let weights = month_weights(head.days);
+    let whole = weights.iter().sum::<u64>() as u128;
     let mut run = Run { trip: head.trip, ..Run::default() };
     for fuel in 0..3 {
         for quantity in 0..5 {
-            let sum = cold_sum(head, fuel, quantity);
-            run.x[fuel][quantity] = half_up(sum, 12_000) as u64;
+            let sum = cold_sum(head, &weights, fuel, quantity);
+            run.x[fuel][quantity] = half_up(sum, 1000 * whole) as u64;
             if (fuel, quantity) == (GASOLINE, CO) {
-                run.x_class_3 = half_up(sum * 72, 1_200_000) as u64;
+                run.x_class_3 = half_up(sum * 72, 100_000 * whole) as u64;
             }
         }
     }
@@ -224,7 +278,7 @@ pub struct Listed {
 }
 
 /// Opens a run and adds records one after the other, nine numbers each; a refused record is passed over. Refuses with 10
-/// where the numbers are not of whole records, then 1 or 2.
+/// where the numbers are not of whole records, then by the head.
 pub fn add_list(head: &Head, numbers: &[u64]) -> Result<Listed, u64> {
     let records = numbers.chunks_exact(9);
     if !records.remainder().is_empty() {
@@ -424,7 +478,7 @@ pub struct Areas {
     pub common: u64,
 }
 
-/// Opens all areas under one head, or refuses with 1 or 2.
+/// Opens all areas under one head, or refuses by it.
 pub fn open_areas(head: &Head) -> Result<Areas, u64> {
     let run = open(head)?;
     Ok(Areas { runs: std::array::from_fn(|_| run.clone()), common: 0 })
@@ -479,6 +533,52 @@ impl Areas {
     }
 }
 
+// ---- Exact sums
+
+/// What a list of accepted records comes to, never rounded: hot grams in billionths, cold grams in parts of which `part` are a gram.
+pub struct Tally {
+    part: u128,
+    /// B × Q by the weights, by fuel and quantity.
+    sums: [[u128; 5]; 3],
+    km: [u64; 3],
+    hot: [[u128; 5]; 3],
+    cold: [[u128; 5]; 3],
+}
+
+impl Tally {
+    /// The tally of a head that is taken, without a record.
+    pub fn of(head: &Head) -> Tally {
+        let weights = month_weights(head.days);
+        let sums = std::array::from_fn(|fuel| std::array::from_fn(|quantity| cold_sum(head, &weights, fuel, quantity)));
+        // cold grams are K × E × sum / (10^16 × 1000 × all weights), for CO of class 3 18/25 of that
+        let part = 10_000_000_000_000_000 * 1000 * 25 * weights.iter().sum::<u64>() as u128;
+        Tally { part, sums, km: [0; 3], hot: [[0; 5]; 3], cold: [[0; 5]; 3] }
+    }
+
+    /// One accepted record more.
+    pub fn feed(&mut self, r: &Record) {
+        let k = r.vehicles as u128 * r.km as u128;
+        let fuel = fuel_of(r.class);
+        self.km[fuel] += k as u64;
+        for quantity in 0..5 {
+            for road in 0..3 {
+                self.hot[fuel][quantity] += k * r.shares[road] as u128 * hot_factor(r.class, quantity, road, r.speeds[road]);
+            }
+            if r.class != 5 {
+                let e = hot_factor(r.class, quantity, URBAN, r.speeds[URBAN]);
+                self.cold[fuel][quantity] += k * e * self.sums[fuel][quantity] * if (r.class, quantity) == (3, CO) { 18 } else { 25 };
+            }
+        }
+    }
+
+    /// Whether a printed total lies within half a gram and 1.5 g for ten million kilometres of the exact sum.
+    pub fn is_near(&self, fuel: usize, quantity: usize, printed: u64) -> bool {
+        let exact = self.hot[fuel][quantity] * (self.part / BILLION) + self.cold[fuel][quantity];
+        let allowed = self.part / 2 + 3 * self.km[fuel] as u128 * (self.part / 20_000_000);
+        (printed as u128 * self.part).abs_diff(exact) <= allowed
+    }
+}
+
 // ---- Sheets
 
 /// A number that is right-justified with spaces, without leading zeros; a minus only before a number that is not 0.
@@ -513,9 +613,14 @@ fn numbers_in(line: &[u8], widths: &[usize]) -> Option<Vec<i64>> {
     Some(numbers)
 }
 
+/// L and T, and in a longer line two days.
 fn head_in(line: &[u8]) -> Option<Head> {
-    let numbers = numbers_in(line, &[5; 13])?;
-    Some(Head { trip: u64::try_from(numbers[0]).ok()?, temps: numbers[1..].try_into().ok()? })
+    let dated = line.len() > 65;
+    let widths = [[5; 13].as_slice(), if dated { &[9, 9] } else { &[] }].concat();
+    let numbers = numbers_in(line, &widths)?;
+    let without_sign = |i: usize| u64::try_from(numbers[i]).ok();
+    let days = if dated { Some([without_sign(13)?, without_sign(14)?]) } else { None };
+    Some(Head { trip: without_sign(0)?, temps: numbers[1..13].try_into().ok()?, days })
 }
 
 fn record_in(line: &[u8]) -> Option<Record> {

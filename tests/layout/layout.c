@@ -25,7 +25,8 @@ static void same(uint64_t found, uint64_t wanted, const char *what, int i) {
 
 /* The header's own comments, as numbers. */
 static void as_documented(void) {
-    SIZE(haldurap_head, 104), PLACE(haldurap_head, trip, 0), FIELD(haldurap_head, temps, 8, 96);
+    SIZE(haldurap_head, 120), PLACE(haldurap_head, trip, 0), FIELD(haldurap_head, temps, 8, 96);
+    PLACE(haldurap_head, first, 104), PLACE(haldurap_head, last, 112);
     SIZE(haldurap_shares, 24), PLACE(haldurap_shares, urban, 0), PLACE(haldurap_shares, rural, 8), PLACE(haldurap_shares, highway, 16);
     SIZE(haldurap_speeds, 24), PLACE(haldurap_speeds, urban, 0), PLACE(haldurap_speeds, rural, 8), PLACE(haldurap_speeds, highway, 16);
     SIZE(haldurap_record, 72), PLACE(haldurap_record, vehicle_class, 0), PLACE(haldurap_record, vehicles, 8), PLACE(haldurap_record, km, 16);
@@ -52,7 +53,7 @@ static void as_documented(void) {
     SIZE(haldurap_layout_answer, 16), PLACE(haldurap_layout_answer, version, 0), PLACE(haldurap_layout_answer, size, 8);
 }
 
-static const haldurap_head head = {120, {100, 100, 100, 100, 100, 100, 100, 100, 100, 100, 100, 100}};
+static const haldurap_head head = {120, {100, 100, 100, 100, 100, 100, 100, 100, 100, 100, 100, 100}, 0, 0};
 static const haldurap_record record = {2, 1000, 10000, {40, 40, 20}, {20, 60, 100}};
 static const char text[] = "  120  100  100  100  100  100  100  100  100  100  100  100  100\n"
                            " 2   1000  10000  40  40  20  20  60 100\n"
@@ -356,12 +357,16 @@ static void areas(haldurap_run fresh) {
     for (int i = 0; i < 16; i++) before.areas.runs[i] = fresh;
     before.areas.common = 0;
     same(haldurap_open_areas(&lent.areas, HALDURAP_AREAS_NUMBERS, head), 0, "open_areas", 1), stays("opened areas", 0);
+    static const uint64_t grounds[] = {HALDURAP_DAY_ORDER, HALDURAP_NO_DAY, HALDURAP_TEMPERATURE, HALDURAP_TRIP_LENGTH};
     haldurap_head wrong = head;
-    for (int i = 0; i < 2; i++) {
-        /* a refused head: zeros */
-        if (i == 0) wrong.temps[11] = 401; else wrong.trip = 9;
+    for (int i = 0; i < 4; i++) {
+        /* a refused head: zeros; each ground comes before those that are there already */
+        if (i == 0) wrong.first = 20260516, wrong.last = 20260515;
+        if (i == 1) wrong.last = 20260532;
+        if (i == 2) wrong.temps[11] = 401;
+        if (i == 3) wrong.trip = 9;
         memset(&lent, 255, sizeof lent), before = lent, before.areas = nothing;
-        same(haldurap_open_areas(&lent.areas, HALDURAP_AREAS_NUMBERS, wrong), i == 0 ? HALDURAP_TEMPERATURE : HALDURAP_TRIP_LENGTH, "open_areas", 2);
+        same(haldurap_open_areas(&lent.areas, HALDURAP_AREAS_NUMBERS, wrong), grounds[i], "open_areas", 2);
         stays("areas of a refused head", i);
     }
     tried(16, 16, 0, "areas of zeros", 0);
@@ -463,6 +468,44 @@ static void areas(haldurap_run fresh) {
     }
 }
 
+/* The days of a head, in each call that takes one and in a sheet. */
+static void days(void) {
+    static const struct { uint64_t first, last, number; } tried_days[] = {
+        {20260515, 20261020, 0}, {20260515, 20260515, 0}, {0, 0, 0},
+        {20261020, 20260515, HALDURAP_DAY_ORDER}, {20260515, 20270515, HALDURAP_DAY_ORDER},
+        {20260515, 0, HALDURAP_NO_DAY}, {0, 20260515, HALDURAP_NO_DAY}, {HIGH + 20260515, 20261020, HALDURAP_NO_DAY},
+        {20260515, HIGH + 20261020, HALDURAP_NO_DAY}, {UINT64_MAX, UINT64_MAX, HALDURAP_NO_DAY},
+    };
+    static const haldurap_run zero;
+    for (int i = 0; i < (int)(sizeof tried_days / sizeof tried_days[0]); i++) {
+        haldurap_head h = {120, {-50, -20, 10, 60, 110, 150, 180, 175, 130, 80, 30, -10}, tried_days[i].first, tried_days[i].last};
+        haldurap_run_answer a = haldurap_open(h);
+        same(a.number, tried_days[i].number, "days in open", i), same(memcmp(&a.run, &zero, sizeof zero) == 0, a.number != 0, "run of days", i);
+        haldurap_list_answer l = haldurap_add_list(h, (const uint64_t *)&record, 0);
+        same(l.number, a.number, "days in add_list", i), same(memcmp(&l.run, &a.run, sizeof a.run), 0, "list of days", i);
+        same(haldurap_open_areas(&lent.areas, HALDURAP_AREAS_NUMBERS, h), a.number, "days in open_areas", i);
+        for (int area = 0; area < 16; area++) same(memcmp(&lent.areas.runs[area], &a.run, sizeof a.run), 0, "areas of days", i);
+        char line[200];
+        int length = sprintf(line, "%5d%5d%5d%5d%5d%5d%5d%5d%5d%5d%5d%5d%5d", 120, -50, -20, 10, 60, 110, 150, 180, 175, 130, 80, 30, -10);
+        same((uint64_t)length + 1, HALDURAP_HEAD_BYTES, "HALDURAP_HEAD_BYTES", i);
+        if (h.first > 999999999 || h.last > 999999999) continue;
+        length += sprintf(line + length, "%9d%9d\n", (int)h.first, (int)h.last);
+        same((uint64_t)length, HALDURAP_DATED_HEAD_BYTES, "HALDURAP_DATED_HEAD_BYTES", i);
+        /* a line of 15 numbers is dated, also by days 0 and 0 */
+        haldurap_sheet_answer s = haldurap_sheet((const uint8_t *)line, (size_t)length);
+        uint64_t number = h.first == 0 && h.last == 0 ? HALDURAP_NO_DAY : a.number;
+        same(s.number, number, "days in sheet", i), same(s.line, number != 0, "line of days", i);
+        same(memcmp(&s.run, number == 0 ? &a.run : &zero, sizeof zero), 0, "sheet of days", i);
+    }
+    for (int i = 0; i < 12; i++) {
+        /* a day of each month has the X of its month's T, and of no other */
+        haldurap_head h = head, alike = head;
+        h.temps[i] = 50, h.first = h.last = 20260101 + 100 * (uint64_t)i;
+        for (int j = 0; j < 12; j++) alike.temps[j] = 50;
+        same(memcmp(haldurap_open(h).run.x, haldurap_open(alike).run.x, sizeof ((haldurap_run *)0)->x), 0, "X of one day", i);
+    }
+}
+
 int main(void) {
     haldurap_run fresh = haldurap_open(head).run, run = haldurap_add(fresh, record).run;
     as_documented();
@@ -474,6 +517,7 @@ int main(void) {
     lists(run);
     orders(run);
     areas(fresh);
+    days();
     printf("C: %d sizes, offsets and values compared, %s\n", checked, failed ? "SOME DIFFER" : "all the same");
     return failed;
 }

@@ -23,7 +23,7 @@ def same(found, wanted, what):
 
 # The sizes and offsets that haldurap.h documents.
 DOCUMENTED = {
-    h.Head: (104, {"trip": 0, "temps": 8}),
+    h.Head: (120, {"trip": 0, "temps": 8, "first": 104, "last": 112}),
     h.Shares: (24, {"urban": 0, "rural": 8, "highway": 16}),
     h.Speeds: (24, {"urban": 0, "rural": 8, "highway": 16}),
     h.Record: (72, {"vehicle_class": 0, "vehicles": 8, "km": 16, "shares": 24, "speeds": 48}),
@@ -240,7 +240,9 @@ def areas(fresh):
     cold, opened = h.head(9, [100] * 12), bytes(fresh) * 16 + bytes(8)
     for area in (0, 16):
         tried(h.Areas(), area, 16, 16, "areas of zeros")
-    for a_head, number, wanted in ((head(), 0, opened), (cold, 1, bytes(18056)), (h.head(120, [401] * 12), 2, bytes(18056))):
+    for a_head, number, wanted in ((head(), 0, opened), (cold, 1, bytes(18056)), (h.head(120, [401] * 12, 1), 2, bytes(18056)),
+                                   (h.head(120, [100] * 12, 20260516, 20260500), 19, bytes(18056)),
+                                   (h.head(120, [100] * 12, 20260516, 20260515), 20, bytes(18056))):
         # opened over ones, with more behind: every number of the areas is written, and no other
         lent = (c_uint64 * (2 * size))(*[2**64 - 1] * (2 * size))
         same(open_areas(ctypes.cast(lent, h._AREAS), size, a_head), number, "open_areas")
@@ -318,6 +320,36 @@ def areas(fresh):
                 same(add_area(lent, size, i, record(speeds=(20, 60, 131))), 8, "a full area")
 
 
+def days():
+    """The days of a head, in each call that takes one and in a sheet."""
+    temps, high, zeros = [-50, -20, 10, 60, 110, 150, 180, 175, 130, 80, 30, -10], 1 << 32, bytes(1128)
+    for first, last, number in ((20260515, 20261020, 0), (20260515, 20260515, 0), (20261020, 20260515, 20), (20260515, 20270515, 20),
+                                (20260515, 0, 19), (0, 20260515, 19), (high + 20260515, 20261020, 19), (20260515, high + 20261020, 19),
+                                (2**64 - 1, 2**64 - 1, 19), (0, 0, 0)):
+        a_head = h.head(120, temps, first, last)
+        a = h._call("open")(a_head)
+        same((a.number, bytes(a.run) == zeros), (number, number != 0), "days in open")
+        listed = h._call("add_list")(a_head, (c_uint64 * 1)(), 0)
+        same((listed.number, bytes(listed.run)), (number, bytes(a.run)), "days in add_list")
+        lent = h.Areas()
+        same(h._call("open_areas")(lent, h.AREAS_NUMBERS, a_head), number, "days in open_areas")
+        same(bytes(lent) == bytes(a.run) * 16 + bytes(8), True, "areas of days")
+        line = b"".join(b"%5d" % n for n in (120, *temps))
+        same(len(line) + 1, h.HEAD_BYTES, "HEAD_BYTES")
+        if max(first, last) < 10**9:
+            line += b"%9d%9d\n" % (first, last)
+            same(len(line), h.DATED_HEAD_BYTES, "DATED_HEAD_BYTES")
+            # a line of 15 numbers is dated, also by days 0 and 0
+            number = 19 if (first, last) == (0, 0) else number
+            s = h._call("sheet")(*h._bytes("text", line))
+            same((s.number, s.line, bytes(s.run)), (number, 1 if number else 0, zeros if number else bytes(a.run)), "days in a sheet")
+    for month in range(12):
+        # a day of each month has the X of its month's T, and of no other
+        day, mixed = 20260101 + 100 * month, [100] * 12
+        mixed[month] = 50
+        same(h.open_run(h.head(120, mixed, day, day)).x[:], h.open_run(h.head(120, [50] * 12)).x[:], "X of one day")
+
+
 def main():
     fresh = h.open_run(head())
     run = h.add(fresh, record())
@@ -329,6 +361,7 @@ def main():
     lists(fresh, run)
     orders(fresh, run)
     areas(fresh)
+    days()
     print("Python: %d sizes, offsets and values compared, %s" % (done, "SOME DIFFER" if failed else "all the same"))
     sys.exit(1 if failed else 0)
 

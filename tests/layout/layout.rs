@@ -20,7 +20,7 @@ impl Check {
     }
 }
 
-const HEAD: Head = Head { trip: 120, temps: [100; 12] };
+const HEAD: Head = Head { trip: 120, temps: [100; 12], first: 0, last: 0 };
 const RECORD: Record = Record {
     class: 2,
     vehicles: 1000,
@@ -46,7 +46,7 @@ macro_rules! struct_is {
 
 /// The sizes and offsets that haldurap.h documents.
 fn as_documented(c: &mut Check) {
-    struct_is!(c, Head, 104, trip 0, temps 8);
+    struct_is!(c, Head, 120, trip 0, temps 8, first 104, last 112);
     struct_is!(c, Shares, 24, urban 0, rural 8, highway 16);
     struct_is!(c, Speeds, 24, urban 0, rural 8, highway 16);
     struct_is!(c, Record, 72, class 0, vehicles 8, km 16, shares 24, speeds 48);
@@ -327,7 +327,9 @@ fn areas(c: &mut Check, fresh: Run) {
     for (head, why, wanted) in [
         (HEAD, TAKEN, Areas { runs: [fresh; 16], common: 0 }),
         (cold, TRIP_LENGTH, Areas::zeros()),
-        (Head { temps: [401; 12], ..HEAD }, TEMPERATURE, Areas::zeros()),
+        (Head { temps: [401; 12], first: 1, ..HEAD }, TEMPERATURE, Areas::zeros()),
+        (Head { first: 20_260_516, last: 20_260_500, ..HEAD }, NO_DAY, Areas::zeros()),
+        (Head { first: 20_260_516, last: 20_260_515, ..HEAD }, DAY_ORDER, Areas::zeros()),
     ] {
         let mut areas = areas_of([u64::MAX; AREAS_NUMBERS]);
         c.same(open_areas(&mut areas, head), why, "open_areas");
@@ -434,6 +436,48 @@ fn areas(c: &mut Check, fresh: Run) {
     }
 }
 
+/// The days of a head, in each call that takes one and in a sheet.
+fn days(c: &mut Check) {
+    let temps = [-50, -20, 10, 60, 110, 150, 180, 175, 130, 80, 30, -10];
+    let high = 1 << 32;
+    for (first, last, number) in [
+        (20_260_515, 20_261_020, TAKEN),
+        (20_260_515, 20_260_515, TAKEN),
+        (20_261_020, 20_260_515, DAY_ORDER),
+        (20_260_515, 20_270_515, DAY_ORDER),
+        (20_260_515, 0, NO_DAY),
+        (0, 20_260_515, NO_DAY),
+        (high + 20_260_515, 20_261_020, NO_DAY),
+        (20_260_515, high + 20_261_020, NO_DAY),
+        (u64::MAX, u64::MAX, NO_DAY),
+        (0, 0, TAKEN),
+    ] {
+        let head = Head { trip: 120, temps, first, last };
+        let a = haldurap_open(head);
+        c.same((a.number, a.run == ZEROS), (number, number != 0), "days in open");
+        c.same(add_list(head, &[]), ListAnswer { number, taken: 0, place: 0, refused: 0, run: a.run }, "days in add_list");
+        let mut areas = Areas::zeros();
+        c.same((open_areas(&mut areas, head), areas == Areas { runs: [a.run; 16], common: 0 }), (number, true), "days in open_areas");
+        let line = format!("{:5}{}", 120, temps.map(|t| format!("{t:5}")).concat());
+        c.same(line.len() + 1, HEAD_BYTES, "HEAD_BYTES");
+        if first.max(last) < 1_000_000_000 {
+            let line = format!("{line}{first:9}{last:9}\n");
+            c.same(line.len(), DATED_HEAD_BYTES, "DATED_HEAD_BYTES");
+            // a line of 15 numbers is dated, also by days 0 and 0
+            let number = if (first, last) == (0, 0) { NO_DAY } else { number };
+            let run = if number == TAKEN { a.run } else { ZEROS };
+            c.same(sheet(line.as_bytes()), SheetAnswer { number, line: (number != 0) as usize, run }, "days in a sheet");
+        }
+    }
+    for i in 0..12 {
+        // a day of each month has the X of its month's T, and of no other
+        let day = 20_260_101 + 100 * i as u64;
+        let mut head = Head { first: day, last: day, ..HEAD };
+        head.temps[i] = 50;
+        c.same(haldurap_open(head).run.x, haldurap_open(Head { temps: [50; 12], ..HEAD }).run.x, "X of one day");
+    }
+}
+
 fn main() {
     let mut c = Check { done: 0, failed: false };
     let fresh = haldurap_open(HEAD).run;
@@ -446,6 +490,7 @@ fn main() {
     lists(&mut c, fresh, run);
     orders(&mut c, fresh, run);
     areas(&mut c, fresh);
+    days(&mut c);
     println!("Rust: {} sizes, offsets and values compared, {}", c.done, if c.failed { "SOME DIFFER" } else { "all the same" });
     std::process::exit(c.failed as i32);
 }

@@ -1,5 +1,6 @@
 /* How much stack each call takes, the arguments and the answer included: on a thread whose stack was filled with one byte
-   before, what is changed afterwards, less what a thread changes that does nothing. The header says less than 16 KB. */
+   before, what is changed afterwards, less what a thread changes that does nothing. Each call is made twice, with a head without
+   dates and with one of a whole year by dates. The header says less than 16 KB. */
 #define _GNU_SOURCE
 #include <pthread.h>
 #include <stdio.h>
@@ -11,7 +12,7 @@
 
 enum { ROOM = 1 << 18, MOST = 16384, FILL = 0xa5, RECORDS = 5001 };
 
-static const haldurap_head head = {120, {100, 100, 100, 100, 100, 100, 100, 100, 100, 100, 100, 100}};
+static haldurap_head head = {120, {100, 100, 100, 100, 100, 100, 100, 100, 100, 100, 100, 100}, 0, 0};
 static const haldurap_record record = {6, 1000, 10000, {40, 40, 20}, {20, 60, 100}};
 static haldurap_run run;
 static haldurap_areas areas, other;
@@ -68,6 +69,15 @@ static size_t taken(void (*work)(void)) {
     return ROOM - low;
 }
 
+/* The longest sheet of the head. */
+static void write_sheet(void) {
+    length = (size_t)sprintf((char *)text, "%5d", 120);
+    for (int month = 0; month < 12; month++) length += (size_t)sprintf((char *)text + length, "%5d", 100);
+    if (head.first != 0) length += (size_t)sprintf((char *)text + length, "%9d%9d", (int)head.first, (int)head.last);
+    length += (size_t)sprintf((char *)text + length, "\n");
+    while (length + 50 < sizeof text) length += (size_t)sprintf((char *)text + length, " 6   1000  10000  40  40  20  20  60 100\n");
+}
+
 int main(void) {
     for (int i = 0; i < RECORDS; i++) memcpy(numbers + i * HALDURAP_RECORD_NUMBERS, &record, sizeof record);
     run = haldurap_add_list(head, numbers, 100 * HALDURAP_RECORD_NUMBERS).run;
@@ -75,10 +85,6 @@ int main(void) {
     if (haldurap_open_areas(&areas, HALDURAP_AREAS_NUMBERS, head) != 0) abort();
     for (uint64_t area = 0; area < HALDURAP_AREAS; area += 2)
         if (haldurap_add_area(&areas, HALDURAP_AREAS_NUMBERS, area, record) != 0) abort();
-    length = (size_t)sprintf((char *)text, "%5d", 120);
-    for (int month = 0; month < 12; month++) length += (size_t)sprintf((char *)text + length, "%5d", 100);
-    length += (size_t)sprintf((char *)text + length, "\n");
-    while (length + 50 < sizeof text) length += (size_t)sprintf((char *)text + length, " 6   1000  10000  40  40  20  20  60 100\n");
 
     static const struct { const char *name; void (*work)(void); } calls[] = {
         {"layout", layout}, {"open", open_run}, {"add", add}, {"add_list", add_list}, {"in_order", in_order},
@@ -90,10 +96,15 @@ int main(void) {
     };
     size_t before = taken(nothing), most = 0;
     const char *deepest = "";
-    for (size_t i = 0; i < sizeof calls / sizeof calls[0]; i++) {
-        size_t depth = taken(calls[i].work) - before;
-        if (depth > most) most = depth, deepest = calls[i].name;
-        if (depth >= MOST) printf("stack.c: %s takes %zu bytes of stack\n", calls[i].name, depth);
+    for (int dated = 0; dated < 2; dated++) {
+        if (dated) head.first = 20000101, head.last = 20001231;
+        write_sheet();
+        if (haldurap_sheet(text, length).number != 0) abort();
+        for (size_t i = 0; i < sizeof calls / sizeof calls[0]; i++) {
+            size_t depth = taken(calls[i].work) - before;
+            if (depth > most) most = depth, deepest = calls[i].name;
+            if (depth >= MOST) printf("stack.c: %s takes %zu bytes of stack\n", calls[i].name, depth);
+        }
     }
     printf("stack: at most %zu bytes (%s) of %zu calls, %s\n", most, deepest, sizeof calls / sizeof calls[0], most < MOST ? "below 16 KB" : "TOO MUCH");
     return most >= MOST;

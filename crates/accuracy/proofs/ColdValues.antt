@@ -3,37 +3,77 @@ use mathlib.Core.Path.{_≡_, refl, sym, ap, _∙_}
 use mathlib.Core.Bool.{Bool, true, false, cond}
 use mathlib.Core.List.{List, [], _∷_}
 use Prim.Native.Nat.{ℕ, _+_, _*_, _/_, _%_, _<_}
+use native.Mathlib.Nat.{one-mul}
 use native.Mathlib.Omega.{arith}
 use borrow.Author.Tests.{eqb-true, ltb-false}
 use lib.Dec.{eqb, ltb, lit<}
 use Rattle.units.specs.Fractions.{over}
 use Rattle.units.specs.Rounding.{halfUp}
+use Rattle.units.proofs.Sums.{sum-alike}
 use Rattle.units.proofs.Tab.{tab-alike}
 use Rattle.classes.specs.Classes.{fuelOf, hasOwnX, betaReduction}
 use Rattle.classes.proofs.Classes.{fuel-below, fuel-3, other-place, other-whole}
+use Rattle.calendar.specs.declared.Days.{Days}
+use Rattle.calendar.specs.declared.Period.the-variants as period
+use Rattle.calendar.specs.Periods.{daysOf, periodWeight}
+use Rattle.coldstart.specs.ColdStart.{slopeOf, monthAt, coldSum, xDenominator}
 use Rattle.coldstart.proofs.ColdStart.{hundredths}
 use Rattle.inventory.specs.declared.Head.{Head}
 use Rattle.inventory.specs.declared.Record.{Record}
 use Rattle.inventory.specs.Opening.{emptyRun, freshRun}
 use Rattle.inventory.specs.Adding.{billionths, coldRate, hotPart, coldPart, partOf, partAt}
-use Rattle.accuracy.specs.Reference.{coldSumOf, exactX, hasRoom, accepts, acceptedFrom, accepted}
+use Rattle.accuracy.specs.Reference.{coldSumOf, weightOf, exactX, hasRoom, accepts, acceptedFrom, accepted}
 use Rattle.accuracy.specs.Claim.{runAfter}
-use Rattle.accuracy.specs.ColdValues.{openedX, NotCoOfClass3, SameFifteen, WithoutClass3, withX, ColdValuesClaim}
+use Rattle.accuracy.specs.ColdValues.{openedX, NotCoOfClass3, SameFifteen, WithoutClass3, withX, sumOfMonths, sumOfDays, EachX, ColdValuesClaim}
 use Rattle.accuracy.proofs.Sums.{sumOf}
 use Rattle.accuracy.proofs.OneRecord.{x-rounded}
 use Rattle.accuracy.proofs.Closed.{HeadLimits, slotSum, gramsOf, restOf, closed, run-closed}
 
-rounded : (head : Head) (class quantity : ℕ) → quantity < 5 → openedX head class quantity ≡ halfUp (exactX head class quantity .numerator) 1200000
+rounded : (head : Head) (class quantity : ℕ) → quantity < 5
+    → openedX head class quantity ≡ halfUp (exactX head class quantity .numerator) (exactX head class quantity .denominator)
 unfolding freshRun emptyRun
 rounded head class quantity q = x-rounded head class quantity q
 
-own-exact : (head : Head) → exactX head 3 0 ≡ over (coldSumOf head 0 0 * 72) 1200000
+own-exact : (head : Head) → exactX head 3 0 ≡ over (coldSumOf head 0 0 * 72) (xDenominator (weightOf head))
 unfolding betaReduction hasOwnX fuelOf
 own-exact head = refl
 
 other-exact : (head : Head) (class quantity : ℕ) → NotCoOfClass3 class quantity
-    → exactX head class quantity ≡ over (coldSumOf head (fuelOf class) quantity * 100) 1200000
+    → exactX head class quantity ≡ over (coldSumOf head (fuelOf class) quantity * 100) (xDenominator (weightOf head))
 other-exact head class quantity o = rw (other-whole class quantity o)
+
+-- the sums and the weight under other names
+each-x : (head : Head) (sum : ℕ → ℕ → ℕ) (weight : ℕ) → ((fuel quantity : ℕ) → coldSumOf head fuel quantity ≡ sum fuel quantity) → weightOf head ≡ weight
+    → EachX head sum weight
+each-x head sum weight e w =
+    let d : xDenominator (weightOf head) ≡ 100000 * weight = omega arith in
+    let own : exactX head 3 0 ≡ over (sum 0 0 * 72) (100000 * weight) = own-exact head ∙ rw (e 0 0, d) in
+    let other : (class quantity : ℕ) → NotCoOfClass3 class quantity → exactX head class quantity ≡ over (sum (fuelOf class) quantity * 100) (100000 * weight) =
+    λ class quantity o. other-exact head class quantity o ∙ rw (e (fuelOf class) quantity, d) in
+    let h : 1000 * weight * 100 ≡ 100000 * weight = omega arith in
+    record {
+      class-3 = rounded head 3 0 (lit< tt) ∙ ap (λ f. halfUp (f .numerator) (f .denominator)) own;
+      exact-class-3 = own;
+      others =
+          λ class quantity q o.
+          rounded head class quantity q ∙ ap (λ f. halfUp (f .numerator) (f .denominator)) (other class quantity o)
+          ∙ ap (halfUp (sum (fuelOf class) quantity * 100)) (sym h) ∙ sym (hundredths (sum (fuelOf class) quantity) (1000 * weight));
+      exact-others = other;
+    }
+
+undated : (head : Head) → head .period ≡ period.Year → EachX head (sumOfMonths head) 12
+unfolding coldSum
+undated head e =
+    each-x head (sumOfMonths head) 12
+    (λ fuel quantity.
+    ap (λ p. coldSum p (head .trip) (head .temps) fuel quantity) e
+    ∙ sum-alike _ _ 12 (λ k h. one-mul (monthAt (head .trip) (slopeOf fuel quantity) (head .temps) k)))
+    (ap periodWeight e)
+
+dated : (head : Head) (d : Days) → head .period ≡ period.Days d → EachX head (sumOfDays head d) (daysOf d)
+unfolding coldSum
+dated head d e =
+    each-x head (sumOfDays head d) (daysOf d) (λ fuel quantity. ap (λ p. coldSum p (head .trip) (head .temps) fuel quantity) e) (ap periodWeight e)
 
 -- ---- what goes by the last X
 
@@ -92,13 +132,8 @@ same-run trip xs ys a b same recs w = rw (run-closed trip ys b recs, run-closed 
 pub cold-values : ColdValuesClaim
 cold-values =
     record {
-      class-3 = λ head. rounded head 3 0 (lit< tt) ∙ ap (λ f. halfUp (f .numerator) 1200000) (own-exact head);
-      exact-class-3 = own-exact;
-      others =
-          λ head class quantity q o.
-          rounded head class quantity q ∙ ap (λ f. halfUp (f .numerator) 1200000) (other-exact head class quantity o)
-          ∙ sym (hundredths (coldSumOf head (fuelOf class) quantity));
-      exact-others = other-exact;
+      undated = undated;
+      dated = dated;
       rounded = rounded;
       last-x-alone = same-part;
       without-class-3 =

@@ -1,15 +1,22 @@
 -- Each call has the number that the conditions of specs/Conditions give. Assumes nothing.
-use mathlib.Core.Path.{_≡_, refl, sym, _∙_}
+use mathlib.Core.Path.{_≡_, refl, sym, ap, _∙_}
 use mathlib.Core.Bool.{Bool, true, false, not, cond, _&&_, _||_}
 use mathlib.Core.List.{List, [], _∷_, _++_}
-use Prim.Native.Nat.{ℕ, zero, suc, _-_}
-use borrow.Author.Tests.{lt-ltb, le-ltb, leb-true, leb-false}
+use Prim.Native.Nat.{ℕ, zero, suc, _+_, _-_, _/_, _%_, _≤_, _<_}
+use native.Mathlib.Omega.{arith}
+use borrow.Author.Tests.{lt-ltb, le-ltb, leb-true, leb-false, eqb-true, eq-eqb}
 use lib.Dec.{eqb, leb, ltb}
 use lib.IntN.{ℤ, pos, negsuc, negℤ}
 use lib.ListN.{length, getD}
 use lib.Signed.{leZ, ltZ}
 use Rattle.units.specs.Lists.{allBelow}
 use Rattle.units.specs.Grounds.{ground, firstFit, outside}
+use Rattle.units.proofs.Tests.{inside-low, inside-high}
+use Rattle.calendar.specs.declared.Period.{Period}
+use Rattle.calendar.specs.declared.Period.the-variants as period
+use Rattle.calendar.specs.Calendar.{isLeap, monthLength, yearOf, monthOf, dayOf, noDay}
+use Rattle.calendar.specs.Periods.{dayMissing, orderWrong, periodGrounds}
+use Rattle.calendar.proofs.Months.{twelve}
 use Rattle.coldstart.specs.ColdStart.{temperatureOk}
 use Rattle.inventory.specs.declared.Head.{Head}
 use Rattle.inventory.specs.declared.Record.{Record}
@@ -21,7 +28,7 @@ use Rattle.inventory.specs.Adding.{addGrounds, addNumber}
 use Rattle.inventory.specs.Printed.{answered, totalGrounds, totalOf}
 use Rattle.balance.specs.Balance.{balanceRatio, soldGrounds, balanceGrounds, balanceNumber, balanceOf, printedFuel}
 use Rattle.listing.specs.Report.{reportBytes, reportGrounds, reportNumber, reportOf}
-use Rattle.accuracy.specs.Conditions.{tripOut, monthOut, someOut, temperatureOut, classOut, vehiclesOut, kmOut, distanceOut, sharesOut, speedOut, runFull, fuelOrQuantityOut, noFuelUsed, soldFuelOut, bufferShort, recordElse, recordNumber}
+use Rattle.accuracy.specs.Conditions.{tripOut, monthOut, someOut, leapYear, daysOfMonth, dateOut, dayOut, noSuchDay, wrongOrder, openingNumber, classOut, vehiclesOut, kmOut, distanceOut, sharesOut, speedOut, runFull, fuelOrQuantityOut, noFuelUsed, soldFuelOut, bufferShort, recordElse, recordNumber}
 use Rattle.accuracy.specs.Claim.{fuelTotal}
 
 -- ---- opening
@@ -53,9 +60,54 @@ months ts zero = refl
 months ts (suc n) =
     not-and (allBelow (λ k. temperatureOk (getD ts k (pos 0))) n) (temperatureOk (getD ts n (pos 0))) ∙ (λ i. months ts n i || month (getD ts n (pos 0)) i)
 
-pub opening : (head : Head) → openNumber head ≡ cond (tripOut (head .trip)) 1 (cond (temperatureOut (head .temps)) 2 0)
-unfolding openNumber headGrounds firstFit outside temperaturesWrong tripOut
-opening head = rw (months (head .temps) 12)
+-- the calendar
+leap-by : (year : ℕ) (a : Bool) → eqb (year % 100) 0 ≡ a → (eqb (year % 4) 0 && (not a || eqb (year % 400) 0)) ≡ cond a (eqb (year % 400) 0) (eqb (year % 4) 0)
+leap-by year true e = let c = eqb-true (year % 100) 0 e in rw (eq-eqb (year % 4) 0 (omega arith))
+leap-by year false e = by (eqb (year % 4) 0)
+  where
+    by : (b : Bool) → (b && (true || eqb (year % 400) 0)) ≡ b
+    by true = refl
+    by false = refl
+
+leap : (year : ℕ) → isLeap year ≡ leapYear year
+unfolding isLeap leapYear
+leap year = leap-by year (eqb (year % 100) 0) refl
+
+month-days : (year k : ℕ) → k < 12 → monthLength year (k + 1) ≡ daysOfMonth year (k + 1)
+unfolding monthLength daysOfMonth
+month-days year =
+    twelve (λ k. monthLength year (k + 1) ≡ daysOfMonth year (k + 1)) refl (ap (λ b. cond b 29 28) (leap year)) refl refl refl refl refl refl refl refl refl refl
+
+date-by : (year month day : ℕ) (b : Bool) → outside 1 12 month ≡ b
+    → (outside 1980 2100 year || b || outside 1 (monthLength year month) day) ≡ (outside 1980 2100 year || b || outside 1 (daysOfMonth year month) day)
+date-by year month day true e = by (outside 1980 2100 year)
+  where
+    by : (a : Bool) → (a || true || outside 1 (monthLength year month) day) ≡ (a || true || outside 1 (daysOfMonth year month) day)
+    by true = refl
+    by false = refl
+date-by year month day false e =
+    let low : 1 ≤ month = inside-low 1 12 month e in
+    let high : month ≤ 12 = inside-high 1 12 month e in
+    let m : month - 1 + 1 ≡ month = omega arith in
+    ap (λ n. outside 1980 2100 year || false || outside 1 n day) (rw m at (month-days year (month - 1) (omega arith)))
+
+date : (d : ℕ) → noDay d ≡ dayOut d
+unfolding noDay dateOut outside
+date d = date-by (yearOf d) (monthOf d) (dayOf d) (outside 1 12 (monthOf d)) refl
+
+no-such-day : (p : Period) → dayMissing p ≡ noSuchDay p
+unfolding noSuchDay
+no-such-day period.Year = refl
+no-such-day (period.Days d) = rw (date (d .first), date (d .last))
+
+wrong-order : (p : Period) → orderWrong p ≡ wrongOrder p
+unfolding wrongOrder
+wrong-order period.Year = refl
+wrong-order (period.Days d) = refl
+
+pub opening : (head : Head) → openNumber head ≡ openingNumber head
+unfolding openNumber headGrounds periodGrounds firstFit outside temperaturesWrong openingNumber tripOut
+opening head = rw (months (head .temps) 12, no-such-day (head .period), wrong-order (head .period))
 
 -- ---- on a run in order a call has the first of its own numbers that fits
 

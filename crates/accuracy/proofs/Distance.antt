@@ -4,6 +4,7 @@ use mathlib.Core.Path.{_≡_, refl, ap, _∙_}
 use mathlib.Core.Bool.{Bool, true, false, cond}
 use mathlib.Core.List.{List, [], _∷_}
 use Prim.Native.Nat.{ℕ, _+_, _*_, _≤_, _<_}
+use native.Mathlib.Nat.{mul-le-mul-right}
 use native.Mathlib.Omega.{arith}
 use lib.Dec.{eqb, lit<}
 use lib.ListN.{length}
@@ -19,7 +20,7 @@ use Rattle.inventory.specs.Limits.{RecordLimits}
 use Rattle.inventory.specs.Order.{sumAt}
 use Rattle.inventory.specs.Adding.{kmOf}
 use Rattle.inventory.specs.Printed.{place, exactTotal, printedTotal}
-use Rattle.accuracy.specs.Reference.{exactDenominator, exactOf, Reference, hasRoom, accepts, empty, withRecord, fed, referenceFrom, referenceOf, acceptedFrom, accepted}
+use Rattle.accuracy.specs.Reference.{weightOf, exactDenominator, exactOf, Reference, hasRoom, accepts, empty, withRecord, fed, referenceFrom, referenceOf, acceptedFrom, accepted}
 use Rattle.accuracy.specs.Claim.{allowance}
 use Rattle.accuracy.proofs.Sums.{sumOf, Apart, Each, sum-apart}
 use Rattle.accuracy.proofs.OneRecord.{headX, billionth, perKm, brings, exactIn, record-near}
@@ -31,23 +32,22 @@ use Rattle.accuracy.proofs.Closed.{slotSum, kmSum, closed, sum-closed}
 record Grown (head : Head) (l : List Record) (t t′ : Reference) : Type 0 where
   count : t′ .count ≡ t .count + length l
   km : (fuel : ℕ) → t′ .km fuel ≡ t .km fuel + kmSum l fuel
-  exact : (fuel quantity n : ℕ) → t .exact fuel quantity ≡ over n exactDenominator
-      → t′ .exact fuel quantity ≡ over (n + sumOf (exactIn head fuel quantity) l) exactDenominator
+  exact : (fuel quantity n : ℕ) → t .exact fuel quantity ≡ over n (exactDenominator head)
+      → t′ .exact fuel quantity ≡ over (n + sumOf (exactIn head fuel quantity) l) (exactDenominator head)
 
 -- one record: b says whether the fuel is the record's
 km-with : (b : Bool) (n k : ℕ) → cond b (n + k) n ≡ n + cond b k 0
 km-with true n k = refl
 km-with false n k = omega arith
 
-exact-with : (b : Bool) (t : Fraction) (n m : ℕ) → t ≡ over n exactDenominator
-    → cond b (plus t (over m exactDenominator)) t ≡ over (n + cond b m 0) exactDenominator
-exact-with true t n m e = rw e (plus-same n m exactDenominator)
-exact-with false t n m e = e ∙ ap (λ k. over k exactDenominator) (omega arith)
+exact-with : (b : Bool) (t : Fraction) (n m d : ℕ) → t ≡ over n d → cond b (plus t (over m d)) t ≡ over (n + cond b m 0) d
+exact-with true t n m d e = rw e (plus-same n m d)
+exact-with false t n m d e = e ∙ ap (λ k. over k d) (omega arith)
 
 grown : (head : Head) (recs : List Record) (t : Reference) → Grown head (acceptedFrom (t .count) recs) t (referenceFrom head t recs)
 unfolding referenceFrom acceptedFrom fed withRecord sumOf kmSum exactIn exactOf kmOf
 grown head [] t =
-    record { count = omega arith; km = λ fuel. omega arith; exact = λ fuel quantity n e. e ∙ ap (λ k. over k exactDenominator) (omega arith) }
+    record { count = omega arith; km = λ fuel. omega arith; exact = λ fuel quantity n e. e ∙ ap (λ k. over k (exactDenominator head)) (omega arith) }
 grown head (rec ∷ recs) t = go (accepts (hasRoom (t .count)) rec) (grown head recs (withRecord head t rec)) (grown head recs t)
   where
     go : (b : Bool) → Grown head (acceptedFrom (t .count + 1) recs) (withRecord head t rec) (referenceFrom head (withRecord head t rec) recs)
@@ -60,34 +60,35 @@ grown head (rec ∷ recs) t = go (accepts (hasRoom (t .count)) rec) (grown head 
           exact =
               λ fuel quantity n e.
               x .exact fuel quantity (n + exactIn head fuel quantity rec)
-              (exact-with (eqb fuel (fuelOf (rec .class))) (t .exact fuel quantity) n (exactOf head rec quantity .numerator) e)
-              ∙ ap (λ k. over k exactDenominator) (omega arith);
+              (exact-with (eqb fuel (fuelOf (rec .class))) (t .exact fuel quantity) n (exactOf head rec quantity .numerator) (exactDenominator head) e)
+              ∙ ap (λ k. over k (exactDenominator head)) (omega arith);
         }
     go false x y = y
 
 module _ (head : Head) (recs : List Record) where
   pub reference-count : referenceOf head recs .count ≡ length (accepted recs)
   unfolding referenceOf empty accepted
-  reference-count = omega (arith, grown head recs empty .count)
+  reference-count = omega (arith, grown head recs (empty head) .count)
 
   pub reference-km : (fuel : ℕ) → referenceOf head recs .km fuel ≡ kmSum (accepted recs) fuel
   unfolding referenceOf empty accepted
-  reference-km fuel = omega (arith, grown head recs empty .km fuel)
+  reference-km fuel = omega (arith, grown head recs (empty head) .km fuel)
 
-  pub reference-exact : (fuel quantity : ℕ) → referenceOf head recs .exact fuel quantity ≡ over (sumOf (exactIn head fuel quantity) (accepted recs)) exactDenominator
+  pub reference-exact : (fuel quantity : ℕ) → referenceOf head recs .exact fuel quantity ≡ over (sumOf (exactIn head fuel quantity) (accepted recs)) (exactDenominator head)
   unfolding referenceOf empty accepted
   reference-exact fuel quantity =
-      grown head recs empty .exact fuel quantity 0 refl ∙ ap (λ k. over k exactDenominator) (omega arith)
+      grown head recs (empty head) .exact fuel quantity 0 refl ∙ ap (λ k. over k (exactDenominator head)) (omega arith)
 
 -- ---- the distance
 
 -- s billionths, rounded, from e over the denominator: half a gram is half of it
-near-by : (s e k : ℕ) → Apart (s * billionth) e (perKm * k) → WithinDistance (halfUp s 1000000000) (over e exactDenominator) (allowance k)
+near-by : (s e k d : ℕ) → Apart (s * (10000000 * d)) e (1500000000 * d * k)
+    → WithinDistance (halfUp s 1000000000) (over e (10000000000000000 * d)) (allowance k)
 unfolding allowance plus
-near-by s e k h =
-    let a : 2 * (halfUp s 1000000000 * 1000000000) ≤ 2 * s + 1000000000 = half-up-high s 1000000000 in
-    let b : 2 * s ≤ 2 * (halfUp s 1000000000 * 1000000000) + 1000000000 = half-up-low s 1000000000 (lit< tt) in
-    omega (arith, h)
+near-by s e k d h =
+    let a = mul-le-mul-right d (half-up-high s 1000000000) in
+    let b = mul-le-mul-right d (half-up-low s 1000000000 (lit< tt)) in
+    omega (arith, h, a, b)
 
 -- what the records bring to the four kinds
 four-sums : (xs : List ℕ) (fuel quantity : ℕ) (l : List Record)
@@ -105,11 +106,11 @@ total-closed trip xs l fuel quantity f q =
     λ kind k. sum-closed trip xs l (place fuel quantity kind) (omega arith) in
     rw (at 0 (lit< tt), at 1 (lit< tt), at 2 (lit< tt), at 3 (lit< tt)) (four-sums xs fuel quantity l)
 
-pub closed-near : (head : Head) (l : List Record) → Each RecordLimits l → (fuel quantity : ℕ) → fuel < 3 → quantity < 5
-    → WithinDistance (printedTotal (closed (head .trip) (headX head) l) fuel quantity) (over (sumOf (exactIn head fuel quantity) l) exactDenominator) (allowance (kmSum l fuel))
+pub closed-near : (head : Head) → 0 < weightOf head → (l : List Record) → Each RecordLimits l → (fuel quantity : ℕ) → fuel < 3 → quantity < 5
+    → WithinDistance (printedTotal (closed (head .trip) (headX head) l) fuel quantity) (over (sumOf (exactIn head fuel quantity) l) (exactDenominator head)) (allowance (kmSum l fuel))
 unfolding printedTotal kmSum
-closed-near head l good fuel quantity f q =
+closed-near head positive l good fuel quantity f q =
     rw (total-closed (head .trip) (headX head) l fuel quantity f q)
-    (near-by _ _ _
-    (sum-apart RecordLimits billionth perKm (brings (headX head) fuel quantity) (exactIn head fuel quantity) (λ rec. kmOf rec fuel)
-    (record-near head fuel quantity q) l good))
+    (near-by _ _ _ _
+    (sum-apart RecordLimits (billionth head) (perKm head) (brings (headX head) fuel quantity) (exactIn head fuel quantity) (λ rec. kmOf rec fuel)
+    (record-near head positive fuel quantity q) l good))

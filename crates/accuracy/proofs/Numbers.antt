@@ -6,6 +6,8 @@ use Rattle.units.specs.Rounding.{halfUp}
 use Rattle.curves.specs.Curves.{quadratic}
 use Rattle.classes.specs.Classes.{fuelOf, hasCold, hasOwnX, betaReduction, xPlace}
 use Rattle.factors.specs.Factors.{coefficients, twoStroke, curve, emissionFactor}
+use Rattle.calendar.specs.Calendar.{isLeap, monthLength, noDay, dayNumber}
+use Rattle.calendar.specs.Periods.{periodGrounds, daysIn, daysOf}
 use Rattle.coldstart.specs.ColdStart.{temperatureOk, coldShare, slopes, coldRatio, coldExcess, monthProduct, coldSum, xFrom, coldX, coldFactor}
 use Rattle.inventory.specs.Records.{temperaturesWrong, headGrounds, vehicleKm, sharesWrong, speedsWrong, recordGrounds}
 use Rattle.inventory.specs.Order.{sumAt, sumWithin, inOrder}
@@ -19,5 +21,5 @@ use Rattle.accuracy.specs.Claim.{runAfter}
 use Rattle.accuracy.specs.Numbers.{exampleRun, figures, NumbersClaim}
 
 pub numbers : NumbersClaim
-unfolding tab allBelow sumTo outside firstFit halfUp fuelOf hasCold hasOwnX betaReduction xPlace coefficients twoStroke quadratic curve emissionFactor temperatureOk coldShare slopes coldRatio coldExcess monthProduct coldSum xFrom coldX coldFactor temperaturesWrong headGrounds vehicleKm sharesWrong speedsWrong recordGrounds sumAt sumWithin inOrder billionths hotPart coldRate coldPart partOf partAt slotAfter kmOf kmAfter runWith addGrounds addNumber addRun emptyRun freshRun openNumber openRun exactTotal printedTotal totalGrounds leastTo digitsWorked balanceRatio balancedTotal soldGrounds balanceGrounds balanceNumber balanceOf co2Grams leadGrams runAfter exampleRun figures
-numbers = (refl, (refl, (refl, (refl, (refl, (refl, (refl, (refl, (refl, (refl, (refl, (refl, (refl, (refl, (refl, (refl, (refl, (refl, (refl, (refl, (refl, tt)))))))))))))))))))))
+unfolding isLeap monthLength noDay dayNumber periodGrounds daysIn daysOf tab allBelow sumTo outside firstFit halfUp fuelOf hasCold hasOwnX betaReduction xPlace coefficients twoStroke quadratic curve emissionFactor temperatureOk coldShare slopes coldRatio coldExcess monthProduct coldSum xFrom coldX coldFactor temperaturesWrong headGrounds vehicleKm sharesWrong speedsWrong recordGrounds sumAt sumWithin inOrder billionths hotPart coldRate coldPart partOf partAt slotAfter kmOf kmAfter runWith addGrounds addNumber addRun emptyRun freshRun openNumber openRun exactTotal printedTotal totalGrounds leastTo digitsWorked balanceRatio balancedTotal soldGrounds balanceGrounds balanceNumber balanceOf co2Grams leadGrams runAfter exampleRun figures
+numbers = (refl, (refl, (refl, (refl, (refl, (refl, (refl, (refl, (refl, (refl, (refl, (refl, (refl, (refl, (refl, (refl, (refl, (refl, (refl, (refl, (refl, (refl, (refl, (refl, (refl, (refl, (refl, (refl, tt))))))))))))))))))))))))))))

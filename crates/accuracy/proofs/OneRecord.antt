@@ -17,6 +17,7 @@ use Rattle.classes.specs.Classes.{fuelOf, hasCold, xCount, xPlace}
 use Rattle.factors.specs.Factors.{emissionFactor}
 use Rattle.classes.proofs.Classes.{x-below}
 use Rattle.factors.proofs.Factors.{factor-most}
+use Rattle.calendar.proofs.Periods.{weight-positive}
 use Rattle.coldstart.specs.ColdStart.{xDenominator, coldX, coldValues, coldFactor}
 use Rattle.coldstart.proofs.ColdStart.{x-of-class, cold-high, cold-low}
 use Rattle.inventory.specs.declared.Head.{Head}
@@ -25,14 +26,15 @@ use Rattle.inventory.specs.Records.{recordGrounds, vehicleKm, speedOf}
 use Rattle.inventory.specs.Limits.{RecordLimits, XLimits}
 use Rattle.inventory.specs.Adding.{hotPart, coldRate, coldPart, partOf, partAt, kmOf}
 use Rattle.inventory.specs.Printed.{place}
-use Rattle.inventory.proofs.Records.{record-limits}
+use Rattle.inventory.specs.Opening.{openNumber}
+use Rattle.inventory.proofs.Records.{climate, record-limits}
 use Rattle.inventory.proofs.Adding.{part-most, km-of-most}
-use Rattle.accuracy.specs.Reference.{acceptable, accepts, exactX, exactHot, exactCold, exactOf}
+use Rattle.accuracy.specs.Reference.{acceptable, accepts, weightOf, exactX, exactHot, exactCold, exactOf}
 use Rattle.accuracy.proofs.Sums.{Apart}
 
 -- the values X of a head
 abbrev pub headX : Head → List ℕ
-headX head = coldValues (head .trip) (head .temps)
+headX head = coldValues (head .period) (head .trip) (head .temps)
 
 -- what a record brings to the four kinds of a fuel and a quantity, in billionths of a gram
 unfoldable pub brings : List ℕ → ℕ → ℕ → Record → ℕ
@@ -72,52 +74,56 @@ brings-most xs high rec o = record { part = part-most xs rec o high; km = km-of-
 -- ---- its four kinds are at most 1.5 g per 10^7 of its kilometres from its exact grams
 
 -- a billionth of a gram, and 1.5 g per 10^7 km for each kilometre, over the denominator of the exact sums
-abbrev pub billionth : ℕ
-billionth = 10000000 * xDenominator
+abbrev pub billionth : Head → ℕ
+billionth head = 10000000 * xDenominator (weightOf head)
 
-abbrev pub perKm : ℕ
-perKm = 1500000000 * xDenominator
+abbrev pub perKm : Head → ℕ
+perKm head = 1500000000 * xDenominator (weightOf head)
 
--- K times the rounded cold factor, and K × E × unrounded X; b says whether the class has a cold part
-cold-near : (b : Bool) (k e s : ℕ) → e ≤ 2000000000
-    → Apart (k * cond b (coldFactor e (halfUp s xDenominator)) 0 * 100 * billionth) (cond b (k * e * s) 0) (perKm * k)
-cold-near true k e s h =
-    record { high = omega (arith, mul-le-mul-left k (cold-high e s xDenominator h)); low = omega (arith, mul-le-mul-left k (cold-low e s xDenominator h (lit< tt))) }
-cold-near false k e s h = omega arith
+-- that denominator is positive for a head that opening takes
+pub weight-of-taken : (head : Head) → openNumber head ≡ 0 → 0 < weightOf head
+weight-of-taken head taken = weight-positive (head .period) (climate head taken .dated)
+
+-- K times the rounded cold factor, and K × E × unrounded X over d; b says whether the class has a cold part
+cold-near : (b : Bool) (k e s d : ℕ) → 0 < d → e ≤ 2000000000
+    → Apart (k * cond b (coldFactor e (halfUp s d)) 0 * 100 * (10000000 * d)) (cond b (k * e * s) 0) (1500000000 * d * k)
+cold-near true k e s d p h =
+    record { high = omega (arith, mul-le-mul-left k (cold-high e s d h)); low = omega (arith, mul-le-mul-left k (cold-low e s d h p)) }
+cold-near false k e s d p h = omega arith
 
 -- X of a class and a quantity is the unrounded one, rounded once
 pub x-rounded : (head : Head) (class quantity : ℕ) → quantity < 5
-    → getD (headX head) (xPlace class quantity) 0 ≡ halfUp (exactX head class quantity .numerator) xDenominator
+    → getD (headX head) (xPlace class quantity) 0 ≡ halfUp (exactX head class quantity .numerator) (xDenominator (weightOf head))
 x-rounded head class quantity q =
-    tab-at 0 (coldX (head .trip) (head .temps)) xCount (xPlace class quantity) (x-below class quantity q)
-    ∙ x-of-class (head .trip) (head .temps) class quantity q
+    tab-at 0 (coldX (head .period) (head .trip) (head .temps)) xCount (xPlace class quantity) (x-below class quantity q)
+    ∙ x-of-class (head .period) (head .trip) (head .temps) class quantity q
 
 abbrev four : List ℕ → Record → ℕ → ℕ
 four xs rec quantity = partOf xs rec quantity 0 + partOf xs rec quantity 1 + partOf xs rec quantity 2 + partOf xs rec quantity 3
 
-four-near : (head : Head) (rec : Record) → RecordLimits rec → (quantity : ℕ) → quantity < 5
-    → Apart (four (headX head) rec quantity * billionth) (exactOf head rec quantity .numerator) (perKm * vehicleKm rec)
+four-near : (head : Head) → 0 < weightOf head → (rec : Record) → RecordLimits rec → (quantity : ℕ) → quantity < 5
+    → Apart (four (headX head) rec quantity * billionth head) (exactOf head rec quantity .numerator) (perKm head * vehicleKm rec)
 unfolding partOf hotPart coldPart coldRate exactOf exactHot exactCold
-four-near head rec o quantity q =
+four-near head positive rec o quantity q =
     let e : ℕ = emissionFactor (rec .class) quantity 0 (speedOf rec 0) in
     rw (x-rounded head (rec .class) quantity q)
     (omega (
       arith,
-      cold-near (hasCold (rec .class)) (vehicleKm rec) e (exactX head (rec .class) quantity .numerator)
+      cold-near (hasCold (rec .class)) (vehicleKm rec) e (exactX head (rec .class) quantity .numerator) (xDenominator (weightOf head)) (omega (arith, positive))
           (factor-most (rec .class) quantity 0 (speedOf rec 0) (o .driven 0 (lit< tt)) q (lit< tt)),
     ))
 
 -- b says whether the fuel is the record's
-own-near : (b : Bool) (n0 n1 n2 n3 e k : ℕ) → Apart ((n0 + n1 + n2 + n3) * billionth) e (perKm * k)
-    → Apart ((cond b n0 0 + cond b n1 0 + cond b n2 0 + cond b n3 0) * billionth) (cond b e 0) (perKm * cond b k 0)
-own-near true n0 n1 n2 n3 e k h = h
-own-near false n0 n1 n2 n3 e k h = omega arith
+own-near : (b : Bool) (n0 n1 n2 n3 e k u v : ℕ) → Apart ((n0 + n1 + n2 + n3) * u) e (v * k)
+    → Apart ((cond b n0 0 + cond b n1 0 + cond b n2 0 + cond b n3 0) * u) (cond b e 0) (v * cond b k 0)
+own-near true n0 n1 n2 n3 e k u v h = h
+own-near false n0 n1 n2 n3 e k u v h = omega arith
 
-pub record-near : (head : Head) (fuel quantity : ℕ) → quantity < 5 → (rec : Record) → RecordLimits rec
-    → Apart (brings (headX head) fuel quantity rec * billionth) (exactIn head fuel quantity rec) (perKm * kmOf rec fuel)
+pub record-near : (head : Head) → 0 < weightOf head → (fuel quantity : ℕ) → quantity < 5 → (rec : Record) → RecordLimits rec
+    → Apart (brings (headX head) fuel quantity rec * billionth head) (exactIn head fuel quantity rec) (perKm head * kmOf rec fuel)
 unfolding brings exactIn kmOf
-record-near head fuel quantity q rec o =
+record-near head positive fuel quantity q rec o =
     let at : (kind : ℕ) → kind < 4 → partAt (headX head) rec (place fuel quantity kind) ≡ cond (eqb fuel (fuelOf (rec .class))) (partOf (headX head) rec quantity kind) 0 =
     λ kind k. slot-part (headX head) rec fuel quantity kind q k in
     rw (at 0 (lit< tt), at 1 (lit< tt), at 2 (lit< tt), at 3 (lit< tt))
-    (own-near (eqb fuel (fuelOf (rec .class))) _ _ _ _ _ _ (four-near head rec o quantity q))
+    (own-near (eqb fuel (fuelOf (rec .class))) _ _ _ _ _ _ _ _ (four-near head positive rec o quantity q))

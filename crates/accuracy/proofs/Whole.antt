@@ -24,7 +24,7 @@ use Rattle.listing.specs.Report.{reportOf, reportBuffer}
 use Rattle.accuracy.specs.Reference.{hasRoom, accepts, accepted, referenceOf}
 use Rattle.accuracy.specs.Conditions.{recordNumber}
 use Rattle.accuracy.specs.Claim.{runAfter, allowance, ListClaim, SameAccepted, EveryList, AccuracyClaim}
-use Rattle.accuracy.proofs.OneRecord.{headX}
+use Rattle.accuracy.proofs.OneRecord.{headX, weight-of-taken}
 use Rattle.accuracy.proofs.Closed.{closed, HeadLimits, km-closed, takes-accepted, accepted-good, run-closed, run-order}
 use Rattle.accuracy.proofs.Distance.{reference-count, reference-km, reference-exact, closed-near}
 use Rattle.accuracy.proofs.Order.{closed-same}
@@ -44,11 +44,11 @@ total-given run order fuel quantity f q =
 module _ (head : Head) (taken : openNumber head ≡ 0) where
   limits : HeadLimits (head .trip) (headX head)
   limits =
-      let c : Climate (head .trip) (head .temps) = climate head taken in
+      let c : Climate (head .period) (head .trip) (head .temps) = climate head taken in
       record {
         trip-low = c .trip-low;
         trip-high = c .trip-high;
-        x-most = λ i b. rw (tab-at 0 (coldX (head .trip) (head .temps)) xCount i b) (x-most (head .trip) (head .temps) c i b);
+        x-most = λ i b. rw (tab-at 0 (coldX (head .period) (head .trip) (head .temps)) xCount i b) (x-most (head .period) (head .trip) (head .temps) c i b);
       }
 
   opened : openRun head ≡ emptyRun (head .trip) (headX head)
@@ -71,7 +71,7 @@ module _ (head : Head) (taken : openNumber head ≡ 0) where
   unfolding accepted
   near recs fuel quantity f q =
       rw (total-given (runAfter (openRun head) recs) (ordered recs) fuel quantity f q, after recs, reference-exact head recs fuel quantity, reference-km head recs fuel)
-      (closed-near head (accepted recs) (accepted-good recs 0) fuel quantity f q)
+      (closed-near head (weight-of-taken head taken) (accepted recs) (accepted-good recs 0) fuel quantity f q)
 
   listed : (recs : List Record) → ListClaim (runAfter (openRun head) recs) (referenceOf head recs)
   listed recs =
@@ -84,7 +84,7 @@ module _ (head : Head) (taken : openNumber head ≡ 0) where
         balances = balances (runAfter (openRun head) recs) (ordered recs);
         count = counted recs;
         km = λ fuel f. rw (after recs, reference-km head recs fuel) (km-closed (head .trip) (headX head) (accepted recs) fuel f);
-        positive = λ fuel quantity. rw (reference-exact head recs fuel quantity) (lit< tt);
+        positive = λ fuel quantity. rw (reference-exact head recs fuel quantity) (omega (arith, weight-of-taken head taken));
         near = near recs;
       }
 

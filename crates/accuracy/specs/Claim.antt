@@ -16,7 +16,7 @@ use Rattle.inventory.specs.Adding.{addNumber, addRun}
 use Rattle.inventory.specs.Printed.{totalOf, printedTotal}
 use Rattle.balance.specs.Balance.{balanceOf, printedFuel, BalanceNear}
 use Rattle.listing.specs.Report.{reportBytes, reportOf, reportBuffer}
-use Rattle.accuracy.specs.Conditions.{tripOut, temperatureOut, recordNumber, fuelOrQuantityOut, noFuelUsed, soldFuelOut, bufferShort}
+use Rattle.accuracy.specs.Conditions.{openingNumber, recordNumber, fuelOrQuantityOut, noFuelUsed, soldFuelOut, bufferShort}
 use Rattle.accuracy.specs.Reference.{Reference, referenceOf, hasRoom, accepts, accepted, occurs}
 
 -- the run after a list of adds, each on the run that the one before it gave back, refused or not
@@ -70,8 +70,8 @@ pub record EveryList (head : Head) : Type 0 where
       → SameReport (runAfter (openRun head) recs) (runAfter (openRun head) others)
 
 pub record AccuracyClaim : Type 0 where
-  -- opening refuses exactly where 1 or 2 fits, with the first that fits
-  pub opening : (head : Head) → openNumber head ≡ cond (tripOut (head .trip)) 1 (cond (temperatureOut (head .temps)) 2 0)
+  -- opening refuses exactly where 1, 2, 19 or 20 fits, with the first that fits
+  pub opening : (head : Head) → openNumber head ≡ openingNumber head
   -- every list of adds under every head that opening took
   pub lists : (head : Head) → openNumber head ≡ 0 → EveryList head
   -- on any run, a balanced total that is not refused

@@ -1,7 +1,7 @@
 -- The conditions of SPECIFICATION, "Refusals", number by number in its words, over plain numbers.
 -- They are written out apart from the lists of grounds that the calls go by, so that a wrong ground there breaks the claim.
 -- Assumes nothing.
-use Prim.Native.Nat.{ℕ, zero, suc, _+_, _*_}
+use Prim.Native.Nat.{ℕ, zero, suc, _+_, _*_, _/_, _%_}
 use mathlib.Core.Bool.{Bool, false, not, cond, _||_}
 use mathlib.Core.List.{List}
 use lib.Dec.{leb, ltb, eqb}
@@ -9,6 +9,9 @@ use lib.IntN.{ℤ, pos, negℤ}
 use lib.ListN.{getD}
 use lib.Signed.{ltZ}
 use Rattle.units.specs.Rounding.{halfUp}
+use Rattle.calendar.specs.declared.Period.{Period}
+use Rattle.calendar.specs.declared.Period.the-variants as period
+use Rattle.inventory.specs.declared.Head.{Head}
 use Rattle.inventory.specs.declared.Record.{Record}
 
 -- 1: L below 10 or above 200
@@ -27,6 +30,38 @@ someOut (suc n) ts = someOut n ts || monthOut (getD ts n (pos 0))
 -- 2: a T of the twelve is out of range
 abbrev pub temperatureOut : List ℤ → Bool
 temperatureOut ts = someOut 12 ts
+
+-- every fourth year is a leap year; of the centuries, those that 400 divides
+unfoldable pub leapYear : ℕ → Bool
+leapYear year = cond (eqb (year % 100) 0) (eqb (year % 400) 0) (eqb (year % 4) 0)
+
+-- February has 28 days, 29 in a leap year; April, June, September and November have 30; the others 31
+unfoldable pub daysOfMonth : ℕ → ℕ → ℕ
+daysOfMonth year month =
+    cond (eqb month 2) (cond (leapYear year) 29 28) (cond (eqb month 4 || eqb month 6 || eqb month 9 || eqb month 11) 30 31)
+
+-- the year below 1980 or above 2100, no such month, or no such day in it
+unfoldable pub dateOut : ℕ → ℕ → ℕ → Bool
+dateOut year month day = (ltb year 1980 || ltb 2100 year) || (ltb month 1 || ltb 12 month) || (ltb day 1 || ltb (daysOfMonth year month) day)
+
+-- a day as it is written is year × 10,000 + month × 100 + day
+abbrev pub dayOut : ℕ → Bool
+dayOut date = dateOut (date / 10000) (date / 100 % 100) (date % 100)
+
+-- 19: the first or the last is no such day or year; a head without dates has none
+unfoldable pub noSuchDay : Period → Bool
+noSuchDay period.Year = false
+noSuchDay (period.Days d) = dayOut (d .first) || dayOut (d .last)
+
+-- 20: the last day before the first, or in another year
+unfoldable pub wrongOrder : Period → Bool
+wrongOrder period.Year = false
+wrongOrder (period.Days d) = ltb (d .last) (d .first) || not (eqb (d .first / 10000) (d .last / 10000))
+
+-- the number of opening: the first of 1, 2, 19 and 20 that fits the head, else 0
+unfoldable pub openingNumber : Head → ℕ
+openingNumber head =
+    cond (tripOut (head .trip)) 1 (cond (temperatureOut (head .temps)) 2 (cond (noSuchDay (head .period)) 19 (cond (wrongOrder (head .period)) 20 0)))
 
 -- 3: class not 1 to 7
 unfoldable pub classOut : ℕ → Bool

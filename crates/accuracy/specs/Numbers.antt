@@ -5,7 +5,11 @@ use mathlib.Core.Path.{_≡_}
 use mathlib.Core.List.{List, [], _∷_}
 use lib.IntN.{pos, negℤ}
 use lib.ListN.{replicate}
+use Rattle.units.specs.Figures.{Figure, figure, AllPrinted}
 use Rattle.units.specs.Rounding.{halfUp}
+use Rattle.calendar.specs.declared.Period.{Period}
+use Rattle.calendar.specs.declared.Period.the-variants as period
+use Rattle.calendar.specs.Periods.{days}
 use Rattle.factors.specs.Factors.{emissionFactor}
 use Rattle.coldstart.specs.ColdStart.{coldShare, orZero, coldFactor}
 use Rattle.inventory.specs.declared.Head.{Head}
@@ -19,11 +23,18 @@ use Rattle.accuracy.specs.ColdValues.{openedX}
 
 -- head `  120` and twelve `  100`
 abbrev pub exampleHead : Head
-exampleHead = record { trip = 120; temps = replicate 12 (pos 100) }
+exampleHead = record { trip = 120; temps = replicate 12 (pos 100); period = period.Year }
 
 -- L 10 and twelve T of -297, where 72/100 of the rounded X of class 2 is not the X of class 3
 abbrev pub coldHead : Head
-coldHead = record { trip = 10; temps = replicate 12 (negℤ (pos 297)) }
+coldHead = record { trip = 10; temps = replicate 12 (negℤ (pos 297)); period = period.Year }
+
+-- the same with T -100 in February, over a period
+abbrev pub seasonHead : Period → Head
+seasonHead p = record { trip = 120; temps = pos 100 ∷ negℤ (pos 100) ∷ replicate 10 (pos 100); period = p }
+
+abbrev pub datedHead : ℕ → ℕ → Head
+datedHead first last = seasonHead (period.Days (days first last))
 
 -- record ` 2   1000  10000  40  40  20  20  60 100`, with any class
 abbrev pub exampleOf : ℕ → Record
@@ -38,14 +49,6 @@ exampleOf class =
 
 unfoldable pub exampleRun : Run
 exampleRun = runAfter (openRun exampleHead) (exampleOf 2 ∷ [])
-
--- a figure of the table: the value that the definitions give, and the one that SPECIFICATION prints
-pub record Figure : Type 0 where
-  pub given : ℕ
-  pub printed : ℕ
-
-abbrev pub figure : ℕ → ℕ → Figure
-figure g p = record { given = g; printed = p }
 
 unfoldable pub figures : List Figure
 figures =
@@ -66,6 +69,15 @@ figures =
     ∷ figure (openedX coldHead 3 0) 3481098570
     -- what 72/100 of the rounded X of class 2 would be
     ∷ figure (halfUp (openedX coldHead 2 0 * 72) 100) 3481098571
+    -- a cold February without dates, by the dates of a full year of 365 days and of 366, on its 29th day, and outside it: X of CO
+    ∷ figure (openedX (seasonHead period.Year) 2 0) 607530000
+    ∷ figure (openedX (datedHead 20260101 20261231) 2 0) 601563945
+    ∷ figure (openedX (datedHead 20000101 20001231) 2 0) 603837049
+    ∷ figure (openedX (datedHead 20000229 20000229) 2 0) 1433520000
+    ∷ figure (openedX (datedHead 20260515 20261020) 2 0) 532440000
+    -- and of class 3, rounded once: 72/100 of the rounded X would be one less
+    ∷ figure (openedX (datedHead 20260101 20261231) 3 0) 433126041
+    ∷ figure (halfUp (openedX (datedHead 20260101 20261231) 2 0 * 72) 100) 433126040
     -- class 2 CO at 20, 60, 100
     ∷ figure (emissionFactor 2 0 0 20) 15095000
     ∷ figure (emissionFactor 2 0 1 60) 15295000
@@ -81,10 +93,6 @@ figures =
     -- F 1,000,000 at l 2: lead
     ∷ figure (leadGrams 1000000 2) 2
     ∷ []
-
-abbrev pub AllPrinted : List Figure → Type 0
-AllPrinted [] = Unit
-AllPrinted (f ∷ fs) = (f .given ≡ f .printed) × AllPrinted fs
 
 -- every figure of the table is the printed one
 abbrev pub NumbersClaim : Type 0

@@ -7,6 +7,7 @@ use lib.Dec.{eqb, ltb}
 use Rattle.units.specs.Grounds.{firstFit}
 use Rattle.units.specs.Fractions.{Fraction, over, plus}
 use Rattle.classes.specs.Classes.{fuelOf, hasCold, betaReduction}
+use Rattle.calendar.specs.Periods.{periodWeight}
 use Rattle.coldstart.specs.ColdStart.{coldSum, xDenominator}
 use Rattle.inventory.specs.declared.Head.{Head}
 use Rattle.inventory.specs.declared.Record.{Record}
@@ -30,17 +31,21 @@ accepts room rec = acceptable rec && room
 abbrev pub exactFactor : Record → ℕ → ℕ → ℕ
 exactFactor rec quantity road = factorOf rec quantity road
 
--- the sum of B × Q of a head for a fuel and a quantity
+-- the sum of weight × B × Q of a head for a fuel and a quantity
 abbrev pub coldSumOf : Head → ℕ → ℕ → ℕ
-coldSumOf head fuel quantity = coldSum (head .trip) (head .temps) fuel quantity
+coldSumOf head fuel quantity = coldSum (head .period) (head .trip) (head .temps) fuel quantity
 
--- the unrounded X of a class and a quantity: the sum of B × Q over 12,000, times 72/100 for CO of class 3
+-- what the period of a head weighs: 12 without dates, else its days
+abbrev pub weightOf : Head → ℕ
+weightOf head = periodWeight (head .period)
+
+-- the unrounded X of a class and a quantity: that sum over 1,000 × weight, times 72/100 for CO of class 3
 abbrev pub exactX : Head → ℕ → ℕ → Fraction
-exactX head class quantity = over (coldSumOf head (fuelOf class) quantity * betaReduction class quantity) xDenominator
+exactX head class quantity = over (coldSumOf head (fuelOf class) quantity * betaReduction class quantity) (xDenominator (weightOf head))
 
--- the denominator of the exact sums, 10^16 times that of X, which all X of a head share
-abbrev pub exactDenominator : ℕ
-exactDenominator = 10000000000000000 * xDenominator
+-- the denominator of the exact sums, 10^16 times that of X, which all X of a head share; another head may have another
+abbrev pub exactDenominator : Head → ℕ
+exactDenominator head = 10000000000000000 * xDenominator (weightOf head)
 
 -- the hot grams of the three roads, times 1,000,000,000
 unfoldable pub exactHot : Record → ℕ → ℕ
@@ -67,8 +72,8 @@ pub record Reference : Type 0 where
   pub exact : ℕ → ℕ → Fraction
 
 -- all 0 at first
-unfoldable pub empty : Reference
-empty = record { count = 0; km = λ fuel. 0; exact = λ fuel quantity. over 0 exactDenominator }
+unfoldable pub empty : Head → Reference
+empty head = record { count = 0; km = λ fuel. 0; exact = λ fuel quantity. over 0 (exactDenominator head) }
 
 -- with an accepted record: the count rises by 1, its fuel's kilometres by K, and each of its fuel's five sums
 unfoldable pub withRecord : Head → Reference → Record → Reference
@@ -89,7 +94,7 @@ referenceFrom head t (rec ∷ recs) = referenceFrom head (fed head t rec) recs
 
 -- the reference after a list of records
 unfoldable pub referenceOf : Head → List Record → Reference
-referenceOf head recs = referenceFrom head empty recs
+referenceOf head recs = referenceFrom head (empty head) recs
 
 -- the accepted records of a list, in its order, where n were accepted before it
 unfoldable pub acceptedFrom : ℕ → List Record → List Record

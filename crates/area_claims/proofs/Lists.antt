@@ -15,7 +15,7 @@ use Rattle.inventory.specs.declared.Head.{Head}
 use Rattle.inventory.specs.Order.{inOrder}
 use Rattle.inventory.specs.Opening.{openNumber, openRun, freshRun, zeroRun, emptyRun}
 use Rattle.inventory.specs.Adding.{addRun}
-use Rattle.accuracy.specs.Conditions.{tripOut, temperatureOut}
+use Rattle.accuracy.specs.Conditions.{openingNumber}
 use Rattle.accuracy.specs.Reference.{empty, referenceFrom, referenceOf}
 use Rattle.accuracy.specs.Claim.{runAfter, ListClaim, SameReport, EveryList}
 use Rattle.accuracy.proofs.Closed.{takes-accepted}
@@ -256,7 +256,7 @@ module _ (head : Head) (taken : openNumber head ≡ 0) where
 -- ---- the claim
 
 opening : (numbers : List ℕ) (head : Head)
-    → openAreasNumber numbers head ≡ cond (not (eqb (length numbers) 2257)) 16 (cond (tripOut (head .trip)) 1 (cond (temperatureOut (head .temps)) 2 0))
+    → openAreasNumber numbers head ≡ cond (not (eqb (length numbers) 2257)) 16 (openingNumber head)
 unfolding openAreasNumber firstFit openNumber
 opening numbers head = ap (λ n. cond (not (eqb (length numbers) 2257)) 16 n) (conditions.opening head)
 

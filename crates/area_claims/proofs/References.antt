@@ -88,7 +88,7 @@ references-from head (add ∷ adds) ts i = references-from head adds (fedAreas h
 
 pub references-are : (head : Head) (adds : List AreaAdd) (i : ℕ) → referencesOf head adds i ≡ referenceOf head (acceptedIn i adds)
 unfolding referencesOf referenceOf acceptedIn empty
-references-are head adds i = references-from head adds (λ j. empty) i
+references-are head adds i = references-from head adds (λ j. empty head) i
 
 -- ---- the accepted records of an area are all accepted by its single run
 

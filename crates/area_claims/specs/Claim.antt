@@ -13,7 +13,7 @@ use Rattle.inventory.specs.Opening.{openRun}
 use Rattle.areas.specs.Areas.{countsOf}
 use Rattle.areas.specs.Numbers.{areasOf}
 use Rattle.areas.specs.Calls.{numbersInOrder, openAreasNumber, openAreasNumbers, addAreaNumber, addAreaNumbers, areaRunNumber, areaRun}
-use Rattle.accuracy.specs.Conditions.{tripOut, temperatureOut}
+use Rattle.accuracy.specs.Conditions.{openingNumber}
 use Rattle.accuracy.specs.Reference.{Reference, acceptable, occurs}
 use Rattle.accuracy.specs.Claim.{runAfter, ListClaim, SameReport}
 use Rattle.area_claims.specs.Conditions.{noArea, areaRecordNumber}
@@ -50,9 +50,9 @@ pub record EveryAreasList (head : Head) (opened : List ℕ) : Type 0 where
       → SameReport (areaRun (numbersAfter opened adds) i) (areaRun (numbersAfter opened others) i)
 
 pub record AreasClaim : Type 0 where
-  -- opening refuses exactly where the length is another, or 1 or 2 fits, with the first that fits
+  -- opening refuses exactly where the length is another, or 1, 2, 19 or 20 fits, with the first that fits
   pub opening : (numbers : List ℕ) (head : Head)
-      → openAreasNumber numbers head ≡ cond (not (eqb (length numbers) 2257)) 16 (cond (tripOut (head .trip)) 1 (cond (temperatureOut (head .temps)) 2 0))
+      → openAreasNumber numbers head ≡ cond (not (eqb (length numbers) 2257)) 16 (openingNumber head)
   -- a head that it refuses leaves zeros alone; another length leaves every number (openAreasNumbers)
   pub zeros : (numbers : List ℕ) (head : Head) → length numbers ≡ 2257 → (openAreasNumber numbers head ≡ 0 → ⊥)
       → openAreasNumbers numbers head ≡ tab (λ j. 0) 2257

@@ -36,7 +36,7 @@ referencesFrom head ts (add ∷ adds) = referencesFrom head (fedAreas head ts ad
 
 -- the references after a list of adds, all empty at first
 unfoldable pub referencesOf : Head → List AreaAdd → ℕ → Reference
-referencesOf head adds = referencesFrom head (λ i. empty) adds
+referencesOf head adds = referencesFrom head (λ i. empty head) adds
 
 -- the counts of the references after one add more, told without their sums
 unfoldable pub countsWith : (ℕ → ℕ) → AreaAdd → ℕ → ℕ

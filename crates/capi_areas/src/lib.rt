@@ -2,8 +2,9 @@
 // numbers. Answers are a number and values.
 ghost use mathlib.Core.Path.{_≡_};
 ghost use Rattle.areas.specs.Calls.{openAreasNumber, openAreasNumbers, addAreaNumber, addAreaNumbers, areaRunNumber, areaRun};
+ghost use Rattle.capi_heads.specs.Heads.{headFrom};
 ghost use Rattle.capi_areas.specs.Answers.{areaRunAnswer};
-use inventory::Head;
+use capi_heads::HeadNumbers;
 use inventory::Record;
 use inventory::Run;
 
@@ -15,11 +16,11 @@ pub struct AreaRunAnswer {
 }
 
 #[no_mangle]
-pub extern "C" fn haldurap_open_areas(numbers: &mut [u64], head: Head) -> u64
-    ensures number { λ n. ⌜ n ≡ openAreasNumber (now (numbers .entry)) head ⌝ }
-    ensures numbers { λ n. ⌜ now (numbers .exit) ≡ openAreasNumbers (now (numbers .entry)) head ⌝ }
+pub extern "C" fn haldurap_open_areas(numbers: &mut [u64], head: HeadNumbers) -> u64
+    ensures number { λ n. ⌜ n ≡ openAreasNumber (now (numbers .entry)) (headFrom head) ⌝ }
+    ensures numbers { λ n. ⌜ now (numbers .exit) ≡ openAreasNumbers (now (numbers .entry)) (headFrom head) ⌝ }
 {
-    let v = area_opening::open_areas(numbers, head);
+    let v = area_opening::open_areas(numbers, capi_heads::head_from(head));
     let opened = units::verdict_number(v);
     opened
 }

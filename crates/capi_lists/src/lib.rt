@@ -1,8 +1,9 @@
 // The exports for C, Rust and Python that make a run of a list or a sheet. Answers are a number and values.
 ghost use mathlib.Core.Path.{_≡_};
 ghost use Rattle.sheet.specs.Sheet.{sheetOf};
+ghost use Rattle.capi_heads.specs.Heads.{headFrom};
 ghost use Rattle.capi_lists.specs.Answers.{listAnswer, sheetAnswer};
-use inventory::Head;
+use capi_heads::HeadNumbers;
 use inventory::Run;
 
 // A number, how many records were taken, the place and number of the first refused one, and a run.
@@ -24,10 +25,10 @@ pub struct SheetAnswer {
 }
 
 #[no_mangle]
-pub extern "C" fn haldurap_add_list(head: Head, numbers: &[u64]) -> ListAnswer
-    ensures { λ r. ⌜ r ≡ listAnswer head (now (numbers .entry)) ⌝ }
+pub extern "C" fn haldurap_add_list(head: HeadNumbers, numbers: &[u64]) -> ListAnswer
+    ensures { λ r. ⌜ r ≡ listAnswer (headFrom head) (now (numbers .entry)) ⌝ }
 {
-    let a = add_list::add_list(head, numbers);
+    let a = add_list::add_list(capi_heads::head_from(head), numbers);
     let v = a.verdict;
     let list = units::verdict_number(v);
     let whole = a.run;

@@ -15,4 +15,4 @@ orderAnswer ok = cond ok 1 0
 
 -- the version of the structs' layout, and the size of a run in bytes: 141 words of 8
 abbrev pub layoutOf : Layout
-layoutOf = record { version = 5; size = 141 * 8 }
+layoutOf = record { version = 6; size = 141 * 8 }

@@ -3,8 +3,9 @@ ghost use mathlib.Core.Path.{_≡_};
 ghost use Rattle.inventory.specs.Order.{inOrder};
 ghost use Rattle.inventory.specs.Opening.{openNumber, openRun};
 ghost use Rattle.inventory.specs.Adding.{addNumber, addRun};
+ghost use Rattle.capi_heads.specs.Heads.{headFrom};
 ghost use Rattle.capi_runs.specs.Answers.{runAnswer, orderAnswer, layoutOf};
-use inventory::Head;
+use capi_heads::HeadNumbers;
 use inventory::Record;
 use inventory::Run;
 
@@ -27,16 +28,16 @@ pub extern "C" fn haldurap_layout() -> Layout
     ensures { λ r. ⌜ r ≡ layoutOf ⌝ }
 {
     Layout {
-        version: 5,
+        version: 6,
         size: 1128,
     }
 }
 
 #[no_mangle]
-pub extern "C" fn haldurap_open(head: Head) -> RunAnswer
-    ensures { λ r. ⌜ r ≡ runAnswer (openNumber head) (openRun head) ⌝ }
+pub extern "C" fn haldurap_open(head: HeadNumbers) -> RunAnswer
+    ensures { λ r. ⌜ r ≡ runAnswer (openNumber (headFrom head)) (openRun (headFrom head)) ⌝ }
 {
-    let a = recording::open_run(head);
+    let a = recording::open_run(capi_heads::head_from(head));
     let v = a.verdict;
     let n = units::verdict_number(v);
     let run = a.run;

@@ -4,7 +4,7 @@ use mathlib.Core.Path.{_≡_, refl, sym, ap, _∙_, subst}
 use mathlib.Core.Bool.{Bool, true, false, cond, _&&_}
 use mathlib.Core.List.{List, []}
 use Prim.Native.Nat.{ℕ, zero, suc, _+_, _*_, _-_, _/_, _%_, _≤_, _<_}
-use native.Mathlib.Nat.{mul-le-mul-left, mul-le-mul-right, mul-le-mul}
+use native.Mathlib.Nat.{mul-assoc, mul-le-mul-left, mul-le-mul-right, mul-le-mul}
 use native.Mathlib.Numerals.{add-one}
 use native.Mathlib.Omega.{arith}
 use borrow.Author.Tests.{lt-ltb, ltb-true, ltb-false}
@@ -15,15 +15,20 @@ use lib.Signed.{nonNeg, ltZ, leZ, leZ-yes, _≤ℤ_}
 use mir.Syntax.{w64}
 use mir.Val.{toZ, ofZ}
 use Rattle.units.specs.Lists.{tab, sumTo, allBelow}
+use Rattle.units.specs.Grounds.{firstFit}
 use Rattle.units.specs.Rounding.{halfUp}
 use Rattle.units.specs.Sizes.{Within}
-use Rattle.units.proofs.Tab.{tab-at}
-use Rattle.units.proofs.Tests.{at, computed, and-left, and-right, T-true, true-T}
+use Rattle.units.proofs.Tab.{tab-at, tab-alike}
+use Rattle.units.proofs.Sums.{sum-alike}
+use Rattle.units.proofs.Tests.{computed, and-left, and-right, T-true, true-T}
 use Rattle.units.proofs.Rounds as rounds
 use Rattle.units.proofs.Signed.{Step, arg}
 use Rattle.classes.specs.Classes.{fuelOf, hasOwnX, betaReduction, xCount, xPlace}
 use Rattle.classes.proofs.Classes.{fuel-below, fuel-3, own}
-use Rattle.coldstart.specs.ColdStart.{temperatureOk, coldShare, Slope, slope, slopes, pairs, SlopeLimits, coldRatio, orZero, coldExcess, monthProduct, monthAt, coldSum, coldX, coldFactor, Climate, SmallSums, withMonth, xDenominator, xFrom, xMost, coldValues, xOfSums}
+use Rattle.calendar.specs.declared.Period.{Period}
+use Rattle.calendar.specs.Periods.{periodGrounds, monthWeight, periodWeight}
+use Rattle.calendar.proofs.Periods.{whole-weight, weight-positive}
+use Rattle.coldstart.specs.ColdStart.{temperatureOk, coldShare, Slope, slope, slopes, pairs, SlopeLimits, coldRatio, orZero, coldExcess, monthProduct, monthAt, weighedAt, coldSum, coldX, coldFactor, Climate, SmallSums, withMonth, coldDenominator, xDenominator, xFrom, xMost, coldValues, xOfSums}
 
 -- ---- differences of whole numbers
 
@@ -131,8 +136,8 @@ whole-range m z w = subst (λ (y : ℤ). (pos 0 ≤ℤ y) × (y ≤ℤ pos m)) (
 pub wider : {m n : ℕ} {z : ℤ} → Whole m z → m ≤ n → Whole n z
 wider w h = record { same = w .same; most = omega (arith, w .most) }
 
-pub month-whole : (l : ℕ) (ts : List ℤ) → Climate l ts → (k : ℕ) → k < 12 → Whole 90265000 (coldShare l (getD ts k (pos 0)))
-month-whole l ts c k h = share-whole l (c .trip-low) (c .trip-high) (getD ts k (pos 0)) (c .temperatures k h)
+pub month-whole : (period : Period) (l : ℕ) (ts : List ℤ) → Climate period l ts → (k : ℕ) → k < 12 → Whole 90265000 (coldShare l (getD ts k (pos 0)))
+month-whole period l ts c k h = share-whole l (c .trip-low) (c .trip-high) (getD ts k (pos 0)) (c .temperatures k h)
 
 -- ---- Q
 
@@ -198,74 +203,108 @@ module _ (i : ℕ) (h : i < 15) where
 
 -- ---- the sums over months, X and the cold factor
 
--- the sum of the entry i over the first k months
-unfoldable pub sumsTo : ℕ → List ℤ → ℕ → ℕ → ℕ
-sumsTo l ts k i = sumTo (monthAt l (entry i) ts) k
+-- the sum of the entry i over the first k months, which weigh w
+unfoldable pub sumsTo : (ℕ → ℕ) → ℕ → List ℤ → ℕ → ℕ → ℕ
+sumsTo w l ts k i = sumTo (λ m. w m * monthAt l (entry i) ts m) k
 
-sums-most : (l : ℕ) (ts : List ℤ) → Climate l ts → (k i : ℕ) → k ≤ 12 → i < 15 → sumsTo l ts k i ≤ 58800000000000
-unfolding sumsTo
-sums-most l ts c k i hk hi =
-    omega (arith, rounds.sum-most (monthAt l (entry i) ts) 4874310000000 k (λ m h. month-most l (entry i) (getD ts m (pos 0)) (c .trip-low) (c .trip-high) (entry-limits i hi) (c .temperatures m (omega arith))))
+module _ (period : Period) (l : ℕ) (ts : List ℤ) (c : Climate period l ts) (w : ℕ → ℕ) where
+  -- at most 4,874,310,000,000 for each unit of weight
+  sums-most : (k i : ℕ) → k ≤ 12 → i < 15 → sumsTo w l ts k i ≤ sumTo w k * 4874310000000
+  unfolding sumsTo
+  sums-most k i hk hi =
+      rounds.weighed-most w (monthAt l (entry i) ts) 4874310000000 k
+      (λ m h. month-most l (entry i) (getD ts m (pos 0)) (c .trip-low) (c .trip-high) (entry-limits i hi) (c .temperatures m (omega arith)))
 
-pub small-sums : (l : ℕ) (ts : List ℤ) → Climate l ts → (k : ℕ) (sums : List ℕ) → k ≤ 12 → sums ≡ tab (sumsTo l ts k) 15 → SmallSums sums
-small-sums l ts c k sums h e =
-    record { each = λ i b. rw (e, tab-at 0 (sumsTo l ts k) 15 i b) (sums-most l ts c k i h b) }
+  pub small-sums : ((m : ℕ) → m < 12 → w m ≤ 31) → (k : ℕ) (sums : List ℕ) → k ≤ 12 → sums ≡ tab (sumsTo w l ts k) 15 → SmallSums sums
+  small-sums light k sums h e =
+      record {
+        each =
+            λ i b.
+            rw (e, tab-at 0 (sumsTo w l ts k) 15 i b)
+            (omega (arith, sums-most k i h b, rounds.sum-most w 31 k (λ m o. light m (omega arith))));
+      }
 
 -- one month more
-pub sums-more : (l : ℕ) (ts : List ℤ) (k : ℕ) → tab (withMonth (tab (sumsTo l ts k) 15) (natAbs (coldShare l (getD ts k (pos 0)))) (getD ts k (pos 0))) 15 ≡ tab (sumsTo l ts (k + 1)) 15
-unfolding tab sumsTo entry sumTo withMonth monthProduct
-sums-more l ts k = rw add-one refl
+pub sums-more : (w : ℕ → ℕ) (l : ℕ) (ts : List ℤ) (k : ℕ)
+    → tab (withMonth (tab (sumsTo w l ts k) 15) (w k * natAbs (coldShare l (getD ts k (pos 0)))) (getD ts k (pos 0))) 15 ≡ tab (sumsTo w l ts (k + 1)) 15
+unfolding sumsTo entry sumTo withMonth monthProduct
+sums-more w l ts k =
+    rw add-one
+    (tab-alike _ _ 15
+    (λ i h.
+    rw (tab-at 0 (sumsTo w l ts k) 15 i h) (ap (λ n. sumTo (λ m. w m * monthAt l (entry i) ts m) k + n) (mul-assoc (w k) _ _))))
 
--- twelve months make X
-pub sums-x : (l : ℕ) (ts : List ℤ) → tab (xOfSums (tab (sumsTo l ts 12) 15)) xCount ≡ coldValues l ts
-unfolding tab sumsTo entry xFrom coldX coldSum
-sums-x l ts = refl
+-- twelve months that weigh what the period says make X
+module _ (period : Period) (l : ℕ) (ts : List ℤ) where
+  made-x : tab (xOfSums (periodWeight period) (tab (sumsTo (monthWeight period) l ts 12) 15)) xCount ≡ coldValues period l ts
+  unfolding tab sumsTo entry xFrom coldX coldSum
+  made-x = refl
 
-pub sum-most : (l : ℕ) (ts : List ℤ) → Climate l ts → (f q : ℕ) → f < 3 → q < 5 → coldSum l ts f q ≤ 58800000000000
+  pub sums-x : (w : ℕ → ℕ) → ((k : ℕ) → k < 12 → w k ≡ monthWeight period k)
+      → tab (xOfSums (periodWeight period) (tab (sumsTo w l ts 12) 15)) xCount ≡ coldValues period l ts
+  unfolding sumsTo
+  sums-x w e =
+      ap (λ y. tab (xOfSums (periodWeight period) y) xCount)
+      (tab-alike (sumsTo w l ts 12) (sumsTo (monthWeight period) l ts 12) 15 (λ i h. sum-alike _ _ 12 (λ k o. ap (λ n. n * monthAt l (entry i) ts k) (e k o))))
+      ∙ made-x
+
+-- the sum of a fuel and a quantity is at most 4,874,310,000,000 for each unit of the period's weight
+pub sum-most : (period : Period) (l : ℕ) (ts : List ℤ) → Climate period l ts → (f q : ℕ) → f < 3 → q < 5
+    → coldSum period l ts f q ≤ periodWeight period * 4874310000000
 unfolding coldSum sumsTo entry
-sum-most l ts c f q hf hq = sums-most l ts c 12 (f * 5 + q) (omega arith) (omega arith)
+sum-most period l ts c f q hf hq =
+    rw (sym (whole-weight period (c .dated))) (sums-most period l ts c (monthWeight period) 12 (f * 5 + q) (omega arith) (omega arith))
 
 -- X of a fuel and a quantity, and X of CO of class 3
-pub x-fuels : (l : ℕ) (ts : List ℤ) (i : ℕ) → i < 15 → coldX l ts i ≡ halfUp (coldSum l ts (i / 5) (i % 5)) 12000
+pub x-fuels : (period : Period) (l : ℕ) (ts : List ℤ) (i : ℕ) → i < 15
+    → coldX period l ts i ≡ halfUp (coldSum period l ts (i / 5) (i % 5)) (coldDenominator (periodWeight period))
 unfolding coldX xFrom
-x-fuels l ts i h = rw (lt-ltb i 15 h)
+x-fuels period l ts i h = rw (lt-ltb i 15 h)
 
-pub x-class-3 : (l : ℕ) (ts : List ℤ) → coldX l ts 15 ≡ halfUp (coldSum l ts 0 0 * 72) 1200000
+pub x-class-3 : (period : Period) (l : ℕ) (ts : List ℤ) → coldX period l ts 15 ≡ halfUp (coldSum period l ts 0 0 * 72) (xDenominator (periodWeight period))
 unfolding coldX xFrom betaReduction hasOwnX
-x-class-3 l ts = refl
+x-class-3 period l ts = refl
 
 -- each X is at most 4,900,000,000
-pub x-most : (l : ℕ) (ts : List ℤ) → Climate l ts → (i : ℕ) → i < xCount → coldX l ts i ≤ xMost
-unfolding halfUp
-x-most l ts c i h = go (ltb i 15) refl
+pub x-most : (period : Period) (l : ℕ) (ts : List ℤ) → Climate period l ts → (i : ℕ) → i < xCount → coldX period l ts i ≤ xMost
+x-most period l ts c i h = go (ltb i 15) refl
   where
-    go : (b : Bool) → ltb i 15 ≡ b → coldX l ts i ≤ xMost
+    positive : 0 < periodWeight period
+    positive = weight-positive period (c .dated)
+
+    go : (b : Bool) → ltb i 15 ≡ b → coldX period l ts i ≤ xMost
     go true e =
         let b : i < 15 = ltb-true i 15 e in
-        rw (x-fuels l ts i b) (omega (arith, sum-most l ts c (i / 5) (i % 5) (omega arith) (omega arith)))
+        rw (x-fuels period l ts i b)
+        (rounds.half-up-most (coldSum period l ts (i / 5) (i % 5)) xMost (coldDenominator (periodWeight period)) (omega (arith, positive))
+        (omega (arith, sum-most period l ts c (i / 5) (i % 5) (omega arith) (omega arith))))
     go false e =
         let last : i ≡ 15 = omega (arith, ltb-false i 15 e) in
-        rw (last, x-class-3 l ts) (omega (arith, sum-most l ts c 0 0 (omega arith) (omega arith)))
+        rw (last, x-class-3 period l ts)
+        (rounds.half-up-most (coldSum period l ts 0 0 * 72) xMost (xDenominator (periodWeight period)) (omega (arith, positive))
+        (omega (arith, sum-most period l ts c 0 0 (omega arith) (omega arith))))
 
 -- 100 hundredths of a sum are rounded as the sum itself
-pub hundredths : (s : ℕ) → halfUp s 12000 ≡ halfUp (s * 100) xDenominator
-unfolding halfUp
-hundredths s = omega arith
+pub hundredths : (s d : ℕ) → halfUp s d ≡ halfUp (s * 100) (d * 100)
+hundredths s d = rounds.half-up-scaled s d 100 (lit< tt)
 
--- X of a class and a quantity: the sum times the reduction factor, over 1,200,000, half up
-pub x-of-class : (l : ℕ) (ts : List ℤ) (class quantity : ℕ) → quantity < 5
-    → coldX l ts (xPlace class quantity) ≡ halfUp (coldSum l ts (fuelOf class) quantity * betaReduction class quantity) xDenominator
+-- X of a class and a quantity: the sum times the reduction factor, over 100,000 × weight, half up
+pub x-of-class : (period : Period) (l : ℕ) (ts : List ℤ) (class quantity : ℕ) → quantity < 5
+    → coldX period l ts (xPlace class quantity)
+    ≡ halfUp (coldSum period l ts (fuelOf class) quantity * betaReduction class quantity) (xDenominator (periodWeight period))
 unfolding xPlace betaReduction
-x-of-class l ts class quantity h = go (hasOwnX class quantity) refl
+x-of-class period l ts class quantity h = go (hasOwnX class quantity) refl
   where
     go : (b : Bool) → hasOwnX class quantity ≡ b
-        → coldX l ts (cond b 15 (fuelOf class * 5 + quantity)) ≡ halfUp (coldSum l ts (fuelOf class) quantity * cond b 72 100) xDenominator
-    go true e = let p = own class quantity e in rw (p .0, p .1, fuel-3) (x-class-3 l ts)
+        → coldX period l ts (cond b 15 (fuelOf class * 5 + quantity))
+        ≡ halfUp (coldSum period l ts (fuelOf class) quantity * cond b 72 100) (xDenominator (periodWeight period))
+    go true e = let p = own class quantity e in rw (p .0, p .1, fuel-3) (x-class-3 period l ts)
     go false e =
         let f = fuel-below class in
         let d : (fuelOf class * 5 + quantity) / 5 ≡ fuelOf class = omega arith in
         let m : (fuelOf class * 5 + quantity) % 5 ≡ quantity = omega arith in
-        rw (x-fuels l ts (fuelOf class * 5 + quantity) (omega arith), d, m) (hundredths (coldSum l ts (fuelOf class) quantity))
+        rw (x-fuels period l ts (fuelOf class * 5 + quantity) (omega arith), d, m)
+        (hundredths (coldSum period l ts (fuelOf class) quantity) (coldDenominator (periodWeight period)))
 
 pub cold-factor-most : (e x : ℕ) → e ≤ 2000000000 → x ≤ xMost → coldFactor e x ≤ 9800000000
 unfolding coldFactor halfUp
@@ -290,12 +329,3 @@ module _ (e s d : ℕ) (small : e ≤ 2000000000) where
       let b : e * (2 * s) ≤ e * (2 * (x * d) + d) = mul-le-mul-left e (rounds.half-up-low s d positive) in
       let m : e * d ≤ 2000000000 * d = mul-le-mul-right d small in
       omega arith
-
--- ---- a head that opening takes
-
--- the temperature of month k is in range
-abbrev pub monthOk : List ℤ → ℕ → Bool
-monthOk ts k = temperatureOk (getD ts k (pos 0))
-
-pub climate-of : (l : ℕ) (ts : List ℤ) → 10 ≤ l → l ≤ 200 → allBelow (monthOk ts) 12 ≡ true → Climate l ts
-climate-of l ts low high h = record { trip-low = low; trip-high = high; temperatures = λ k b. at (monthOk ts) 12 h k b }

@@ -9,8 +9,11 @@ use lib.Dec.{ltb}
 use lib.ListN.{getD}
 use lib.Signed.{leZ}
 use Rattle.units.specs.Lists.{tab, sumTo}
+use Rattle.units.specs.Grounds.{firstFit}
 use Rattle.units.specs.Rounding.{halfUp}
 use Rattle.classes.specs.Classes.{betaReduction, xCount}
+use Rattle.calendar.specs.declared.Period.{Period}
+use Rattle.calendar.specs.Periods.{periodGrounds, monthWeight, periodWeight}
 
 -- l is the mean trip length L in tenths of km, t a monthly mean temperature T in tenths of a degree;
 -- a fuel is 0 gasoline, 1 diesel, 2 LPG, a quantity 0 CO, 1 NOX, 2 VOC, 3 PM, 4 FC
@@ -75,56 +78,61 @@ monthProduct l s t = natAbs (coldShare l t) * coldExcess s t
 abbrev pub monthAt : ℕ → Slope → List ℤ → ℕ → ℕ
 monthAt l s ts k = monthProduct l s (getD ts k (pos 0))
 
--- the sum of B × Q over the twelve months of a fuel and a quantity
-unfoldable pub coldSum : ℕ → List ℤ → ℕ → ℕ → ℕ
-coldSum l ts fuel quantity = sumTo (monthAt l (slopeOf fuel quantity) ts) 12
+-- what month k weighs in the period, times its B × Q
+abbrev pub weighedAt : Period → ℕ → Slope → List ℤ → ℕ → ℕ
+weighedAt period l s ts k = monthWeight period k * monthAt l s ts k
 
--- what a sum of B × Q is divided by: 1,000 times the sum of the twelve months' weights, each 1
-abbrev pub coldDenominator : ℕ
-coldDenominator = 12000
+-- the sum of weight × B × Q over the twelve months of a fuel and a quantity; without dates each month weighs 1
+unfoldable pub coldSum : Period → ℕ → List ℤ → ℕ → ℕ → ℕ
+coldSum period l ts fuel quantity = sumTo (weighedAt period l (slopeOf fuel quantity) ts) 12
 
--- what it is divided by where a reduction factor in hundredths multiplies it: 1,200,000
-abbrev pub xDenominator : ℕ
-xDenominator = coldDenominator * 100
+-- what such a sum is divided by: 1,000 × the weight of the period, which is 12 without dates, else its days
+abbrev pub coldDenominator : ℕ → ℕ
+coldDenominator weight = 1000 * weight
 
--- X at the place i of a run, from the sums by fuel × 5 + quantity: a sum over 12,000, half up;
--- behind the fifteen CO of class 3, the sum of gasoline CO times 72, over 1,200,000, half up
-unfoldable pub xFrom : (ℕ → ℕ) → ℕ → ℕ
-xFrom sum i =
-    cond (ltb i 15) (halfUp (sum i) coldDenominator) (halfUp (sum 0 * betaReduction 3 0) xDenominator)
+-- what it is divided by where a reduction factor in hundredths multiplies it
+abbrev pub xDenominator : ℕ → ℕ
+xDenominator weight = coldDenominator weight * 100
+
+-- X at the place i of a run, from the sums by fuel × 5 + quantity: a sum over 1,000 × weight, half up;
+-- behind the fifteen CO of class 3, the sum of gasoline CO times 72, over 100,000 × weight, half up
+unfoldable pub xFrom : ℕ → (ℕ → ℕ) → ℕ → ℕ
+xFrom weight sum i =
+    cond (ltb i 15) (halfUp (sum i) (coldDenominator weight)) (halfUp (sum 0 * betaReduction 3 0) (xDenominator weight))
 
 -- X of a head at the place i
-unfoldable pub coldX : ℕ → List ℤ → ℕ → ℕ
-coldX l ts i = xFrom (λ j. coldSum l ts (j / 5) (j % 5)) i
+unfoldable pub coldX : Period → ℕ → List ℤ → ℕ → ℕ
+coldX period l ts i = xFrom (periodWeight period) (λ j. coldSum period l ts (j / 5) (j % 5)) i
 
 -- each X is at most so much
 abbrev pub xMost : ℕ
 xMost = 4900000000
 
 -- the values X of a head, as a run holds them
-abbrev pub coldValues : ℕ → List ℤ → List ℕ
-coldValues l ts = tab (coldX l ts) xCount
+abbrev pub coldValues : Period → ℕ → List ℤ → List ℕ
+coldValues period l ts = tab (coldX period l ts) xCount
 
 -- cold factor = E × X / 1,000,000,000, half up
 unfoldable pub coldFactor : ℕ → ℕ → ℕ
 coldFactor e x = halfUp (e * x) 1000000000
 
--- a trip length and temperatures that opening takes
-pub record Climate (l : ℕ) (ts : List ℤ) : Type 0 where
+-- a trip length, temperatures and a period that opening takes
+pub record Climate (period : Period) (l : ℕ) (ts : List ℤ) : Type 0 where
+  pub dated : firstFit (periodGrounds period) ≡ 0
   pub trip-low : 10 ≤ l
   pub trip-high : l ≤ 200
   pub temperatures : (k : ℕ) → k < 12 → temperatureOk (getD ts k (pos 0)) ≡ true
 
 -- ---- the 15 sums of the code, which adds a month to all of them at a time
 
--- sums over at most twelve months: they and one month more stay in 64 bits
+-- sums over at most twelve months of at most 31 days: they, 72 times as much and one month more stay in 64 bits
 pub record SmallSums (sums : List ℕ) : Type 0 where
-  pub each : (i : ℕ) → i < 15 → getD sums i 0 ≤ 58800000000000
+  pub each : (i : ℕ) → i < 15 → getD sums i 0 ≤ 1814000000000000
 
--- the sum of the entry i with a month of the share b and the temperature t
+-- the sum of the entry i with a month whose weight × share is b, at the temperature t
 unfoldable pub withMonth : List ℕ → ℕ → ℤ → ℕ → ℕ
 withMonth sums b t i = getD sums i 0 + b * coldExcess (getD slopes i (slope 0 0)) t
 
 -- X at the place i from the code's sums over twelve months
-abbrev pub xOfSums : List ℕ → ℕ → ℕ
-xOfSums sums i = xFrom (λ j. getD sums j 0) i
+abbrev pub xOfSums : ℕ → List ℕ → ℕ → ℕ
+xOfSums weight sums i = xFrom weight (λ j. getD sums j 0) i

@@ -1,5 +1,5 @@
 -- What is taken is a rendering: fields, lines, sheets. Assumes nothing.
-use Prim.Native.Nat.{ℕ, zero, suc, _+_, _-_}
+use Prim.Native.Nat.{ℕ, zero, suc, _+_, _-_, _≤_}
 use mathlib.Core.Path.{_≡_, refl, sym, ap, _∙_}
 use mathlib.Core.List.{List, [], _∷_, _++_, map}
 use mathlib.Core.Bool.{Bool, true, false, cond}
@@ -17,17 +17,20 @@ use Rattle.fields.specs.declared.Field.{Field}
 use Rattle.fields.specs.declared.Field.the-variants.{Plus, Minus, Bad}
 use Rattle.fields.specs.Field.{parse}
 use Rattle.fields.proofs.RoundTrip.{only, only-minus}
+use Rattle.calendar.specs.declared.Period.{Period}
+use Rattle.calendar.specs.declared.Period.the-variants as period
+use Rattle.calendar.specs.Periods.{days}
 use Rattle.inventory.specs.declared.Head.{Head}
 use Rattle.inventory.specs.declared.Record.{Record}
 use Rattle.inventory.specs.declared.Run.{Run}
 use Rattle.inventory.specs.Opening.{openNumber, openRun}
 use Rattle.inventory.specs.Adding.{addNumber, addRun}
 use Rattle.lines.specs.Lines.{glue, lines, headWidths, recordWidths, total, shaped, fields, signedOf, numberIn, numbersIn, numbersOf}
-use Rattle.lines.specs.Records.{andThen, countOf, countsOf, headWith, headOf, recordWith, recordOf}
+use Rattle.lines.specs.Records.{andThen, countOf, countsOf, periodWith, headWith, orElse, headOf, recordWith, recordOf}
 use Rattle.sheet.specs.Sheet.{Outcome, refusedAt, decided, lineNumber, lineRun, fromRecords, headNumber, headRun, fromHead, sheetOf}
-use Rattle.form.specs.Rendering.{renderSigned, renderLine, temperatureIn, renderHead, recordNumbers, renderRecord, renderRecords, renderSheet}
+use Rattle.form.specs.Rendering.{renderSigned, renderLine, temperatureIn, isDated, daysOfLine, headNumbers, renderHead, recordNumbers, renderRecord, renderRecords, renderSheet}
 use Rattle.form.specs.Claim.{TakenInTurn, StatedForm}
-use Rattle.lines.proofs.Lines.{before-back}
+use Rattle.lines.proofs.Lines.{before-back, numbers-back, shaped-back}
 use Rattle.sheet.proofs.Walk.{asRecord, record-made}
 
 -- ---- a field
@@ -64,19 +67,6 @@ fields-only (w ∷ ws) l zs h lf e =
     let q : take w l ++ drop w l ≡ renderSigned w (p .0) ++ renderLine ws (p .1) = cc in
     sym (take-append-drop w l) ∙ q ∙ ap (renderLine (w ∷ ws)) (sym (p .4))
 
-shaped-back : (ws line : List ℕ) → shaped ws line ≡ true → (length line ≡ total ws + 1) × (getD line (total ws) 0 ≡ 10)
-unfolding shaped
-shaped-back ws line e =
-    (eqb-true _ _ (and-left (eqb (length line) (total ws + 1)) _ e), eqb-true _ _ (and-right (eqb (length line) (total ws + 1)) _ e))
-
-numbers-back : (ws line : List ℕ) (zs : List ℤ) → numbersOf ws line ≡ some zs → (shaped ws line ≡ true) × (numbersIn (fields ws line) ≡ some zs)
-unfolding numbersOf
-numbers-back ws line zs e = by (shaped ws line) refl e
-  where
-    by : (t : Bool) → shaped ws line ≡ t → cond t (numbersIn (fields ws line)) none ≡ some zs → (shaped ws line ≡ true) × (numbersIn (fields ws line) ≡ some zs)
-    by true p e = (p, e)
-    by false p e = let y : _≡_ {A = ℕ} 0 1 = cc in absurd (omega arith)
-
 line-only : (ws line : List ℕ) (zs : List ℤ) → numbersOf ws line ≡ some zs → line ≡ renderLine ws zs
 line-only ws line zs e =
     let p = numbers-back ws line zs e in
@@ -112,20 +102,65 @@ tab-back ts h =
     ext-getD (pos 0) ts (tab (λ k. getD ts k (pos 0)) 12) (h ∙ sym (tab-length (λ k. getD ts k (pos 0)) 12))
     (λ i l. sym (tab-at (pos 0) (λ k. getD ts k (pos 0)) 12 i (omega arith)))
 
-head-with : (zs : List ℤ) (head : Head) → length zs ≡ 13 → headWith zs ≡ some head → zs ≡ pos (head .trip) ∷ tab (temperatureIn head) 12
-head-with [] head h e = absurd (omega arith)
-head-with (z ∷ ts) head h e =
-    let p = then-back (countOf z) (λ n. some (record { trip = n; temps = ts })) head e in
-    let q : _≡_ {A = Head} (record { trip = p .0; temps = ts }) head = cc in
-    let a : z ≡ pos (head .trip) = count-is z (p .0) (p .1) ∙ ap (λ (x : Head). pos (x .trip)) q in
-    let b : ts ≡ tab (temperatureIn head) 12 = tab-back ts (omega arith) ∙ ap (λ (x : Head). tab (temperatureIn x) 12) q in
-    cc
+-- what stands behind the temperatures is the period's
+period-back : (ds : List ℤ) (p : Period) → length ds ≤ 2 → periodWith ds ≡ some p → ds ≡ daysOfLine p
+period-back [] p h e = let q : period.Year ≡ p = cc in ap daysOfLine q
+period-back (first ∷ []) p h e = let y : _≡_ {A = ℕ} 0 1 = cc in absurd (omega arith)
+period-back (first ∷ last ∷ []) p h e =
+    let a = then-back (countOf first) (λ n. andThen (countOf last) λ m. some (period.Days (days n m))) p e in
+    let b = then-back (countOf last) (λ m. some (period.Days (days (a .0) m))) p (a .2) in
+    let q : period.Days (days (a .0) (b .0)) ≡ p = cc in
+    let x : first ≡ pos (a .0) = count-is first (a .0) (a .1) in
+    let y : last ≡ pos (b .0) = count-is last (b .0) (b .1) in
+    (λ i. x i ∷ y i ∷ []) ∙ ap daysOfLine q
+period-back (first ∷ last ∷ z ∷ zs) p h e = absurd (omega arith)
+
+-- so the form of the line is the period's
+form-is : (dated : Bool) (p : Period) → length (daysOfLine p) + 13 ≡ length (headWidths dated) → dated ≡ isDated p
+unfolding headWidths
+form-is true period.Year e = absurd (omega arith)
+form-is true (period.Days d) e = refl
+form-is false period.Year e = refl
+form-is false (period.Days d) e = absurd (omega arith)
+
+widths-most : (dated : Bool) → (13 ≤ length (headWidths dated)) × (length (headWidths dated) ≤ 15)
+unfolding headWidths
+widths-most true = (omega arith, omega arith)
+widths-most false = (omega arith, omega arith)
+
+head-with : (dated : Bool) (zs : List ℤ) (head : Head) → length zs ≡ length (headWidths dated) → headWith zs ≡ some head
+    → (zs ≡ headNumbers head) × (dated ≡ isDated (head .period))
+head-with dated [] head h e = absurd (omega (arith, widths-most dated .0))
+head-with dated (z ∷ ts) head h e =
+    let p = then-back (countOf z) (λ n. andThen (periodWith (drop 12 ts)) λ q. some (record { trip = n; temps = take 12 ts; period = q })) head e in
+    let r = then-back (periodWith (drop 12 ts)) (λ q. some (record { trip = p .0; temps = take 12 ts; period = q })) head (p .2) in
+    let q : _≡_ {A = Head} (record { trip = p .0; temps = take 12 ts; period = r .0 }) head = cc in
+    let w = widths-most dated in
+    let n : length (take 12 ts) ≡ 12 = length-take-le 12 ts (omega (arith, w .0)) in
+    let m : length (drop 12 ts) + 12 ≡ length ts = rw length-drop (omega (arith, w .0)) in
+    let x : z ≡ pos (head .trip) = count-is z (p .0) (p .1) ∙ ap (λ (y : Head). pos (y .trip)) q in
+    let t : take 12 ts ≡ tab (temperatureIn head) 12 = tab-back (take 12 ts) n ∙ ap (λ (y : Head). tab (temperatureIn y) 12) q in
+    let d : drop 12 ts ≡ daysOfLine (head .period) = period-back (drop 12 ts) (r .0) (omega (arith, w .1)) (r .1) ∙ ap (λ (y : Head). daysOfLine (y .period)) q in
+    let f : ts ≡ tab (temperatureIn head) 12 ++ daysOfLine (head .period) = sym (take-append-drop 12 ts) ∙ (λ i. t i ++ d i) in
+    ((λ i. x i ∷ f i), form-is dated (head .period) (omega (arith, m, ap length d)))
+
+numbers-only : (dated : Bool) (line : List ℕ) (zs : List ℤ) (head : Head) → numbersOf (headWidths dated) line ≡ some zs → headWith zs ≡ some head → line ≡ renderHead head
+unfolding renderHead
+numbers-only dated line zs head e h =
+    let p = head-with dated zs head (line-count (headWidths dated) line zs e) h in
+    line-only (headWidths dated) line zs e ∙ (λ i. renderLine (headWidths (p .1 i)) (p .0 i))
+
+-- either form
+else-by : (line : List ℕ) (zs : List ℤ) (head : Head) (a : Option (List ℤ)) → numbersOf (headWidths false) line ≡ a
+    → orElse a (numbersOf (headWidths true) line) ≡ some zs → headWith zs ≡ some head → line ≡ renderHead head
+else-by line zs head none p e h = numbers-only true line zs head e h
+else-by line zs head (some ys) p e h = let q : ys ≡ zs = cc in numbers-only false line zs head (p ∙ ap some q) h
 
 pub head-only : (line : List ℕ) (head : Head) → headOf line ≡ some head → line ≡ renderHead head
-unfolding headOf renderHead headWidths
+unfolding headOf
 head-only line head e =
-    let p = then-back (numbersOf headWidths line) headWith head e in
-    line-only headWidths line (p .0) (p .1) ∙ ap (renderLine headWidths) (head-with (p .0) head (line-count headWidths line (p .0) (p .1)) (p .2))
+    let p = then-back (orElse (numbersOf (headWidths false) line) (numbersOf (headWidths true) line)) headWith head e in
+    else-by line (p .0) head (numbersOf (headWidths false) line) refl (p .1) (p .2)
 
 -- ---- a record line
 

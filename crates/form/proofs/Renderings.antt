@@ -1,7 +1,8 @@
 -- Renderings are taken: fields, lines, sheets. Assumes nothing.
-use Prim.Native.Nat.{ℕ, suc, _+_, _-_, _/_, _%_, _^_, _≤_, _<_}
+use Prim.Native.Nat.{ℕ, suc, _+_, _*_, _-_, _/_, _%_, _^_, _≤_, _<_}
 use mathlib.Core.Path.{_≡_, refl, sym, ap, _∙_}
 use mathlib.Core.List.{List, [], _∷_, _++_, map, append-assoc}
+use mathlib.Core.Bool.{true, false, cond}
 use mathlib.Core.Option.{some}
 use native.Mathlib.Omega.{arith}
 use lib.IntN.{ℤ, pos, negsuc, natAbs}
@@ -16,7 +17,12 @@ use Rattle.units.proofs.Tests.{inside, inside-high, all}
 use Rattle.fields.proofs.RoundTrip.{taken, taken-minus, length-minus}
 use Rattle.text.proofs.Write.{length-render}
 use Rattle.classes.specs.Classes.{xCount}
-use Rattle.coldstart.specs.ColdStart.{temperatureOk, Slope, slopeOf, monthProduct, monthAt, coldSum, xFrom, coldX, Climate}
+use Rattle.calendar.specs.declared.Period.{Period}
+use Rattle.calendar.specs.declared.Period.the-variants as period
+use Rattle.calendar.specs.Periods.{periodGrounds, monthWeight}
+use Rattle.calendar.proofs.Months.{Date}
+use Rattle.calendar.proofs.Laws.{taken-period}
+use Rattle.coldstart.specs.ColdStart.{temperatureOk, Slope, slopeOf, monthProduct, weighedAt, coldSum, xFrom, coldX, Climate}
 use Rattle.coldstart.proofs.ColdStart.{temperature-size}
 use Rattle.inventory.specs.declared.Head.{Head}
 use Rattle.inventory.specs.declared.Record.{Record}
@@ -26,14 +32,14 @@ use Rattle.inventory.specs.Opening.{emptyRun, freshRun, openNumber, openRun}
 use Rattle.inventory.specs.Adding.{addNumber, addRun}
 use Rattle.inventory.proofs.Records.{climate, record-limits}
 use Rattle.accuracy.specs.Claim.{runAfter}
-use Rattle.verdicts.proofs.Verdicts.{good-head}
+use Rattle.verdicts.proofs.Verdicts.{by-period}
 use Rattle.recording.proofs.Runs.{open-by, run-opened, ready}
 use Rattle.lines.specs.Lines.{lines, headWidths, recordWidths, total, fields, signedOf, numberIn, numbersIn, numbersOf}
 use Rattle.lines.specs.Records.{countsOf, headOf, recordOf}
 use Rattle.sheet.specs.Sheet.{fromRecords, fromHead, sheetOf}
-use Rattle.form.specs.Rendering.{renderSigned, renderLine, temperatureIn, renderHead, recordNumbers, renderRecord, renderRecords, renderSheet}
+use Rattle.form.specs.Rendering.{renderSigned, renderLine, temperatureIn, isDated, daysOfLine, headNumbers, renderHead, recordNumbers, renderRecord, renderRecords, renderSheet}
 use Rattle.form.specs.Claim.{TakenInTurn, StatedForm}
-use Rattle.lines.proofs.Lines.{lineLength, first-line, whole-line, line-numbers}
+use Rattle.lines.proofs.Lines.{lineLength, first-line, whole-line, line-numbers, other-form}
 use Rattle.sheet.proofs.Walk.{record-made, decided-taken}
 
 -- ---- a field
@@ -162,10 +168,33 @@ fit-temperature : (t : ℤ) → natAbs t ≤ 400 → Fits 5 t
 fit-temperature (pos n) h = fit-pos 4 n (omega arith) (omega arith)
 fit-temperature (negsuc n) h = fit-neg 4 n (omega arith) (omega arith)
 
+append-fits : (ws vs : List ℕ) (zs ys : List ℤ) → AllFit ws zs → AllFit vs ys → AllFit (ws ++ vs) (zs ++ ys)
+unfolding AllFit
+append-fits [] vs [] ys a b = b
+append-fits [] vs (z ∷ zs) ys a b = absurd a
+append-fits (w ∷ ws) vs [] ys a b = absurd a
+append-fits (w ∷ ws) vs (z ∷ zs) ys a b = (a .0, append-fits ws vs zs ys (a .1) b)
+
+-- a day has eight digits
+day-fits : (date : ℕ) → Date date → Fits 9 (pos date)
+day-fits date p = let h : date < 1000000000 = omega (arith, p .year-high) in fit-pos 8 date h h
+
+days-fit : (p : Period) → firstFit (periodGrounds p) ≡ 0 → AllFit (cond (isDated p) (9 ∷ 9 ∷ []) []) (daysOfLine p)
+unfolding AllFit
+days-fit period.Year z = tt
+days-fit (period.Days d) z = let t = taken-period d z in (day-fits (d .first) (t .first), (day-fits (d .last) (t .last), tt))
+
+-- a line of either form is read as what it says
+form-read : (p : Period) (trip : ℕ) (temps : ℕ → ℤ) (line : List ℕ) → numbersOf (headWidths (isDated p)) line ≡ some (pos trip ∷ (tab temps 12 ++ daysOfLine p))
+    → headOf line ≡ some (record { trip = trip; temps = tab temps 12; period = p })
+unfolding headOf tab total headWidths
+form-read period.Year trip temps line e = rw e
+form-read (period.Days d) trip temps line e = rw (other-form (headWidths true) (headWidths false) line _ e (λ q. omega arith), e)
+
 module _ (head : Head) (z : openNumber head ≡ 0) where
   -- the head with its twelve temperatures alone, as a line says it
   twelve : Head
-  twelve = record { trip = head .trip; temps = tab (temperatureIn head) 12 }
+  twelve = record { trip = head .trip; temps = tab (temperatureIn head) 12; period = head .period }
 
   same-month : (k : ℕ) → k < 12 → getD (tab (temperatureIn head) 12) k (pos 0) ≡ temperatureIn head k
   same-month k h = tab-at (pos 0) (temperatureIn head) 12 k h
@@ -173,9 +202,9 @@ module _ (head : Head) (z : openNumber head ≡ 0) where
   month-fits : (k : ℕ) → k < 12 → Fits 5 (temperatureIn head k)
   month-fits k h = fit-temperature (temperatureIn head k) (temperature-size (temperatureIn head k) (climate head z .temperatures k h) .size)
 
-  head-fits : AllFit headWidths (pos (head .trip) ∷ tab (temperatureIn head) 12)
+  thirteen-fit : AllFit (headWidths false) (pos (head .trip) ∷ tab (temperatureIn head) 12)
   unfolding AllFit headWidths tab
-  head-fits =
+  thirteen-fit =
       let trip : head .trip ≤ 200 = climate head z .trip-high in (
         fit-pos 4 _ (omega arith) (omega arith),
         (
@@ -205,32 +234,40 @@ module _ (head : Head) (z : openNumber head ≡ 0) where
         ),
       )
 
-  head-rendered : (rest : List ℕ) → Rendered headWidths (pos (head .trip) ∷ tab (temperatureIn head) 12) rest (renderHead head ++ rest)
+  head-fits : AllFit (headWidths (isDated (head .period))) (headNumbers head)
+  unfolding headWidths
+  head-fits =
+      append-fits (headWidths false) (cond (isDated (head .period)) (9 ∷ 9 ∷ []) []) (pos (head .trip) ∷ tab (temperatureIn head) 12) (daysOfLine (head .period)) thirteen-fit
+      (days-fit (head .period) (climate head z .dated))
+
+  head-rendered : (rest : List ℕ) → Rendered (headWidths (isDated (head .period))) (headNumbers head) rest (renderHead head ++ rest)
   unfolding renderHead
-  head-rendered rest = rendered headWidths (pos (head .trip) ∷ tab (temperatureIn head) 12) rest head-fits
+  head-rendered rest = rendered (headWidths (isDated (head .period))) (headNumbers head) rest head-fits
 
   head-taken : (rest : List ℕ) → headOf (take (lineLength (renderHead head ++ rest)) (renderHead head ++ rest)) ≡ some twelve
-  unfolding headOf twelve
-  head-taken rest = rw (line-says headWidths (pos (head .trip) ∷ tab (temperatureIn head) 12) rest (renderHead head ++ rest) (head-rendered rest))
+  unfolding twelve
+  head-taken rest =
+      form-read (head .period) (head .trip) (temperatureIn head) (take (lineLength (renderHead head ++ rest)) (renderHead head ++ rest))
+      (line-says (headWidths (isDated (head .period))) (headNumbers head) rest (renderHead head ++ rest) (head-rendered rest))
 
   -- it is opened alike
   same-number : openNumber twelve ≡ 0
   unfolding twelve
   same-number =
-      let c : Climate (head .trip) (head .temps) = climate head z in
+      let c : Climate (head .period) (head .trip) (head .temps) = climate head z in
       sym
       (open-by twelve 0
-      (good-head twelve (inside 10 200 (head .trip) (c .trip-low) (c .trip-high))
+      (sym (c .dated) ∙ by-period twelve (inside 10 200 (head .trip) (c .trip-low) (c .trip-high))
       (all (monthOk twelve) 12 (λ k h. ap temperatureOk (same-month k h) ∙ c .temperatures k h))))
 
-  same-sum : (fuel quantity : ℕ) → coldSum (head .trip) (tab (temperatureIn head) 12) fuel quantity ≡ coldSum (head .trip) (head .temps) fuel quantity
+  same-sum : (fuel quantity : ℕ) → coldSum (head .period) (head .trip) (tab (temperatureIn head) 12) fuel quantity ≡ coldSum (head .period) (head .trip) (head .temps) fuel quantity
   unfolding coldSum
   same-sum fuel quantity =
       let s : Slope = slopeOf fuel quantity in
-      sum-alike (monthAt (head .trip) s (tab (temperatureIn head) 12)) (monthAt (head .trip) s (head .temps)) 12
-      (λ k h. ap (λ (t : ℤ). monthProduct (head .trip) s t) (same-month k h))
+      sum-alike (weighedAt (head .period) (head .trip) s (tab (temperatureIn head) 12)) (weighedAt (head .period) (head .trip) s (head .temps)) 12
+      (λ k h. ap (λ (t : ℤ). monthWeight (head .period) k * monthProduct (head .trip) s t) (same-month k h))
 
-  same-x : (i : ℕ) → i < xCount → coldX (head .trip) (tab (temperatureIn head) 12) i ≡ coldX (head .trip) (head .temps) i
+  same-x : (i : ℕ) → i < xCount → coldX (head .period) (head .trip) (tab (temperatureIn head) 12) i ≡ coldX (head .period) (head .trip) (head .temps) i
   unfolding coldX xFrom
   same-x i b = rw (same-sum 0 0, same-sum (i / 5) (i % 5))
 
@@ -238,7 +275,8 @@ module _ (head : Head) (z : openNumber head ≡ 0) where
   unfolding twelve freshRun
   same-run =
       sym (run-opened twelve same-number)
-      ∙ ap (emptyRun (head .trip)) (tab-alike (coldX (head .trip) (tab (temperatureIn head) 12)) (coldX (head .trip) (head .temps)) xCount same-x)
+      ∙ ap (emptyRun (head .trip))
+      (tab-alike (coldX (head .period) (head .trip) (tab (temperatureIn head) 12)) (coldX (head .period) (head .trip) (head .temps)) xCount same-x)
       ∙ run-opened head z
 
 -- ---- a sheet
@@ -251,7 +289,7 @@ sheet-taken bytes head recs f =
     let rest = renderRecords recs in
     rw (
       f .rendered,
-      line-first headWidths (pos (head .trip) ∷ tab (temperatureIn head) 12) rest (renderHead head ++ rest) (head-rendered head z rest),
+      line-first (headWidths (isDated (head .period))) (headNumbers head) rest (renderHead head ++ rest) (head-rendered head z rest),
       head-taken head z rest,
       same-run head z,
     )

@@ -4,6 +4,7 @@ use Prim.Native.Nat.{ℕ, _+_}
 use mathlib.Core.List.{List}
 use lib.IntN.{ℤ}
 use Rattle.units.specs.Lists.{tab}
+use Rattle.calendar.specs.Periods.{periodFrom}
 use Rattle.inventory.specs.declared.Head.{Head}
 use Rattle.inventory.specs.declared.Record.{Record}
 use Rattle.harness_lines.specs.Lines.{numberAt, signedAt}
@@ -12,9 +13,10 @@ use Rattle.harness_lines.specs.Lines.{numberAt, signedAt}
 abbrev pub temperatureAt : List ℕ → ℕ → ℕ → ℤ
 temperatureAt bytes at k = signedAt bytes at (k + 2)
 
--- the head of a line: the trip length, then twelve temperatures
+-- the head of a line: the trip length, twelve temperatures, then the first and the last day, 0 and 0 without dates
 unfoldable pub headAt : List ℕ → ℕ → Head
-headAt bytes at = record { trip = numberAt bytes at 1; temps = tab (temperatureAt bytes at) 12 }
+headAt bytes at =
+    record { trip = numberAt bytes at 1; temps = tab (temperatureAt bytes at) 12; period = periodFrom (numberAt bytes at 14) (numberAt bytes at 15) }
 
 -- the record of a line, behind the number of times
 unfoldable pub recordAt : List ℕ → ℕ → Record

@@ -7,7 +7,7 @@ use inventory::Shares;
 use inventory::Speeds;
 use units::Speed;
 
-// The head of a line.
+// The head of a line: the trip length, twelve temperatures, and the first and the last day, 0 and 0 without dates.
 pub fn head_of(b: &[u8], at: usize) -> Head
     ensures { λ r. ⌜ r ≡ headAt (now (b .entry)) at ⌝ }
 {
@@ -17,9 +17,12 @@ pub fn head_of(b: &[u8], at: usize) -> Head
         temps[k as usize] = harness_lines::signed(b, at, k + 2);
         k += 1;
     }
+    let first = harness_lines::number(b, at, 14);
+    let last = harness_lines::number(b, at, 15);
     Head {
         trip: harness_lines::number(b, at, 1),
         temps,
+        period: calendar::period_from(first, last),
     }
 }
 

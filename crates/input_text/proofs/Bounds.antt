@@ -14,6 +14,7 @@ use Rattle.units.specs.Refusals.{refusalNumber}
 use Rattle.units.proofs.Tests.{T-true, and-left, and-right}
 use Rattle.units.proofs.Refusals.{number-positive}
 use Rattle.text.proofs.Value.{read-back}
+use Rattle.calendar.specs.Periods.{periodGrounds}
 use Rattle.inventory.specs.declared.Head.{Head}
 use Rattle.inventory.specs.declared.Record.{Record}
 use Rattle.inventory.specs.declared.Run.{Run}
@@ -48,33 +49,33 @@ fit-most m (g ∷ gs) t =
     pick-most (g .fits) (g .number) (firstFit gs) m (leb-true (g .number) m (and-left (leb (g .number) m) (numbersTo m gs) t))
     (fit-most m gs (and-right (leb (g .number) m) (numbersTo m gs) t))
 
-open-most : (head : Head) → openNumber head ≤ 16
-unfolding openNumber headGrounds numbersTo
-open-most head = fit-most 16 (headGrounds head) refl
+open-most : (head : Head) → openNumber head ≤ 20
+unfolding openNumber headGrounds periodGrounds numbersTo
+open-most head = fit-most 20 (headGrounds head) refl
 
-add-most : (run : Run) (rec : Record) → addNumber run rec ≤ 16
+add-most : (run : Run) (rec : Record) → addNumber run rec ≤ 20
 unfolding addNumber addGrounds recordGrounds numbersTo
-add-most run rec = fit-most 16 (addGrounds run rec) refl
+add-most run rec = fit-most 20 (addGrounds run rec) refl
 
 -- ---- the number and the line of a sheet
 
 record Small (m : ℕ) (o : Outcome) : Type 0 where
-  number : o .number ≤ 16
+  number : o .number ≤ 20
   line : o .line ≤ m
 
-picked : (m n k : ℕ) (rest : Outcome) (b : Bool) → k ≤ 16 → n ≤ m → Small m rest → Small m (cond b rest (refusedAt k n))
+picked : (m n k : ℕ) (rest : Outcome) (b : Bool) → k ≤ 20 → n ≤ m → Small m rest → Small m (cond b rest (refusedAt k n))
 picked m n k rest true h l s = s
 picked m n k rest false h l s = record { number = h; line = l }
 
-decided-small : (m n k : ℕ) (rest : Outcome) → k ≤ 16 → n ≤ m → Small m rest → Small m (decided k n rest)
+decided-small : (m n k : ℕ) (rest : Outcome) → k ≤ 20 → n ≤ m → Small m rest → Small m (decided k n rest)
 unfolding decided
 decided-small m n k rest h l s = picked m n k rest (eqb k 0) h l s
 
-line-number-most : (run : Run) (rec : Option Record) → lineNumber run rec ≤ 16
+line-number-most : (run : Run) (rec : Option Record) → lineNumber run rec ≤ 20
 line-number-most run none = omega arith
 line-number-most run (some rec) = add-most run rec
 
-head-number-most : (head : Option Head) → headNumber head ≤ 16
+head-number-most : (head : Option Head) → headNumber head ≤ 20
 head-number-most none = omega arith
 head-number-most (some head) = open-most head
 
@@ -109,9 +110,9 @@ sheet-small bytes = let h = lines-few bytes in lines-small (lines bytes) (1 + le
 
 -- ---- the number, the line and the length of a text
 
-number-most : (bytes : List ℕ) → textNumber bytes ≤ 16
+number-most : (bytes : List ℕ) → textNumber bytes ≤ 20
 unfolding textNumber
-number-most bytes = pick-most (ltb 65536 (length bytes)) 10 (sheetNumber bytes) 16 (omega arith) (sheet-small bytes .number)
+number-most bytes = pick-most (ltb 65536 (length bytes)) 10 (sheetNumber bytes) 20 (omega arith) (sheet-small bytes .number)
 
 line-by : (bytes : List ℕ) (b : Bool) → ltb 65536 (length bytes) ≡ b → cond b 1 (sheetLine bytes) ≤ 65537
 line-by bytes true e = omega arith

@@ -8,9 +8,10 @@ use lib.Dec.{eqb, ltb}
 use borrow.Author.Tests.{ltb-false, not-false}
 use Rattle.units.specs.Lists.{allBelow}
 use Rattle.units.specs.Grounds.{ground, firstFit, outside}
-use Rattle.units.proofs.Grounds.{passed, fit-append}
+use Rattle.units.proofs.Grounds.{passed, none-fits, fit-append}
 use Rattle.units.proofs.Tests.{or-false-left, or-false-right, inside-low, inside-high, at}
 use Rattle.factors.specs.Factors.{Driven}
+use Rattle.calendar.specs.Periods.{periodGrounds}
 use Rattle.coldstart.specs.ColdStart.{Climate}
 use Rattle.inventory.specs.declared.Head.{Head}
 use Rattle.inventory.specs.declared.Record.{Record}
@@ -31,11 +32,12 @@ none-of-three a b c h =
     let l = or-false-left (a || b) c h in
     (or-false-left a b l, or-false-right a b l, or-false-right (a || b) c h)
 
-pub climate : (head : Head) → openNumber head ≡ 0 → Climate (head .trip) (head .temps)
-unfolding openNumber headGrounds temperaturesWrong
+pub climate : (head : Head) → openNumber head ≡ 0 → Climate (head .period) (head .trip) (head .temps)
+unfolding openNumber headGrounds temperaturesWrong periodGrounds
 climate head z =
     let p = passed (headGrounds head) tt z in
     record {
+      dated = none-fits (periodGrounds (head .period)) (p .1 .1);
       trip-low = inside-low 10 200 (head .trip) (p .0);
       trip-high = inside-high 10 200 (head .trip) (p .0);
       temperatures = λ k h. at (monthOk head) 12 (not-false (allBelow (monthOk head) 12) (p .1 .0)) k h;

@@ -33,7 +33,7 @@ zeroRun = emptyRun 0 (tab noRest xCount)
 
 -- the run of a head that opening takes
 unfoldable pub freshRun : Head → Run
-freshRun head = emptyRun (head .trip) (coldValues (head .trip) (head .temps))
+freshRun head = emptyRun (head .trip) (coldValues (head .period) (head .trip) (head .temps))
 
 -- the number of opening: 0 where the head is taken
 unfoldable pub openNumber : Head → ℕ

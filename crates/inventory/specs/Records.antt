@@ -9,6 +9,7 @@ use lib.IntN.{pos}
 use lib.ListN.{getD}
 use Rattle.units.specs.Lists.{allBelow}
 use Rattle.units.specs.Grounds.{Ground, ground, outside}
+use Rattle.calendar.specs.Periods.{periodGrounds}
 use Rattle.coldstart.specs.ColdStart.{temperatureOk}
 use Rattle.inventory.specs.declared.Head.{Head}
 use Rattle.inventory.specs.declared.Record.{Record}
@@ -21,9 +22,9 @@ monthOk head k = temperatureOk (getD (head .temps) k (pos 0))
 unfoldable pub temperaturesWrong : Head → Bool
 temperaturesWrong head = not (allBelow (monthOk head) 12)
 
--- the grounds of opening, in their order
+-- the grounds of opening, in their order: 1, 2, then those of the period
 unfoldable pub headGrounds : Head → List Ground
-headGrounds head = ground 1 (outside 10 200 (head .trip)) ∷ ground 2 (temperaturesWrong head) ∷ []
+headGrounds head = ground 1 (outside 10 200 (head .trip)) ∷ ground 2 (temperaturesWrong head) ∷ periodGrounds (head .period)
 
 -- the specification's K, in vehicle kilometres
 unfoldable pub vehicleKm : Record → ℕ

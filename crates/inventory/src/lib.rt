@@ -1,15 +1,17 @@
 // Heads, records and runs. Their meaning stands in specs/, what is used of it in proofs/; the code is in the crates above.
+use calendar::Period;
 use units::Grams;
 use units::Refusal;
 use units::Speed;
 use units::VehicleKm;
 use units::Verdict;
 
-// A head: the mean trip length in tenths of km, and twelve monthly mean temperatures in tenths of a degree Celsius.
-#[repr(C)]
+// A head: the mean trip length in tenths of km, twelve monthly mean temperatures in tenths of a degree Celsius, and what it
+// covers: the whole year, or the days from one date to another.
 pub struct Head {
     pub trip: u64,
     pub temps: [i64; 12],
+    pub period: Period,
 }
 
 // The percent of the distance on each road.

@@ -9,11 +9,12 @@ use native.Mathlib.Omega.{arith}
 use lib.IntN.{ℤ, pos, negsuc}
 use lib.ListN.{length, take, drop, set, replicate}
 use lib.Seq.{take-suc-set, append-snoc, take-all}
+use Rattle.calendar.specs.declared.Period.{Period}
 use Rattle.fields.specs.Field.{parse, countIn}
 use Rattle.lines.specs.declared.Signed.the-variants as signed
 use Rattle.lines.specs.Lines.{headWidths, fields, numberIn, before, numbersIn}
-use Rattle.lines.specs.Records.{andThen, headWith}
-use Rattle.lines.specs.Reading.{fieldsFrom, signedCase, tempsCase}
+use Rattle.lines.specs.Records.{andThen}
+use Rattle.lines.specs.Reading.{fieldsFrom, signedCase, tempsCase, headOver}
 use Rattle.lines.proofs.Counts.{fields-from, number-plus, count-small}
 
 -- what the first j elements of t and then r are
@@ -67,31 +68,33 @@ temps-none : (o : Option (List ℤ)) → tempsCase o .ok ≡ false → o ≡ non
 temps-none none e = refl
 temps-none (some ts) e = let y : _≡_ {A = ℕ} 0 1 = cc in absurd (omega arith)
 
-no-trip : (f : List ℕ) → 10000000000 ≤ countIn f → (a : Option ℤ) → numberIn f ≡ a → (r : Option (List ℤ)) → andThen (before a r) headWith ≡ none
+no-trip : (p : Period) (f : List ℕ) → 10000000000 ≤ countIn f → (a : Option ℤ) → numberIn f ≡ a → (r : Option (List ℤ)) → andThen (before a r) (headOver p) ≡ none
 unfolding numberIn
-no-trip f h none e r = refl
-no-trip f h (some z) e none = refl
-no-trip f h (some (pos n)) e (some ts) = absurd (omega (arith, count-small f (parse f) (pos n) n refl e refl))
-no-trip f h (some (negsuc n)) e (some ts) = refl
+no-trip p f h none e r = refl
+no-trip p f h (some z) e none = refl
+no-trip p f h (some (pos n)) e (some ts) = absurd (omega (arith, count-small f (parse f) (pos n) n refl e refl))
+no-trip p f h (some (negsuc n)) e (some ts) = refl
 
-no-temps : (a : Option ℤ) → andThen (before a none) headWith ≡ none
-no-temps none = refl
-no-temps (some z) = refl
+no-temps : (p : Period) (a : Option ℤ) → andThen (before a none) (headOver p) ≡ none
+no-temps p none = refl
+no-temps p (some z) = refl
 
 module _ (s : List ℕ) where
-  parts : numbersIn (fields headWidths s) ≡ before (numberIn (take 5 (drop 0 s))) (fives s 12 5)
+  parts : numbersIn (fields (headWidths false) s) ≡ before (numberIn (take 5 (drop 0 s))) (fives s 12 5)
   unfolding numbersIn fieldsFrom headWidths
-  parts = ap numbersIn (fields-from headWidths s 0)
+  parts = ap numbersIn (fields-from (headWidths false) s 0)
 
-  pub trip-missing : 10000000000 ≤ countIn (take 5 (drop 0 s)) → andThen (numbersIn (fields headWidths s)) headWith ≡ none
-  trip-missing h = rw parts (no-trip (take 5 (drop 0 s)) h (numberIn (take 5 (drop 0 s))) refl (fives s 12 5))
+  module _ (p : Period) where
+    pub trip-missing : 10000000000 ≤ countIn (take 5 (drop 0 s)) → andThen (numbersIn (fields (headWidths false) s)) (headOver p) ≡ none
+    trip-missing h = rw parts (no-trip p (take 5 (drop 0 s)) h (numberIn (take 5 (drop 0 s))) refl (fives s 12 5))
 
-  pub temps-missing : tempsCase (fives s 12 5) .ok ≡ false → andThen (numbersIn (fields headWidths s)) headWith ≡ none
-  temps-missing e = rw (parts, temps-none (fives s 12 5) e) (no-temps (numberIn (take 5 (drop 0 s))))
+    pub temps-missing : tempsCase (fives s 12 5) .ok ≡ false → andThen (numbersIn (fields (headWidths false) s)) (headOver p) ≡ none
+    temps-missing e = rw (parts, temps-none (fives s 12 5) e) (no-temps p (numberIn (take 5 (drop 0 s))))
 
-  pub head-there : countIn (take 5 (drop 0 s)) < 10000000000 → tempsCase (fives s 12 5) .ok ≡ true
-      → andThen (numbersIn (fields headWidths s)) headWith ≡ some (record { trip = countIn (take 5 (drop 0 s)); temps = tempsCase (fives s 12 5) .temps })
-  head-there h e =
-      let p : numbersIn (fields headWidths s) ≡ some (pos (countIn (take 5 (drop 0 s))) ∷ tempsCase (fives s 12 5) .temps) =
-      parts ∙ rw (number-plus (take 5 (drop 0 s)) h) (ap (before (some (pos (countIn (take 5 (drop 0 s)))))) (temps-some (fives s 12 5) e)) in
-      ap (λ (o : Option (List ℤ)). andThen o headWith) p
+    pub head-there : countIn (take 5 (drop 0 s)) < 10000000000 → tempsCase (fives s 12 5) .ok ≡ true
+        → andThen (numbersIn (fields (headWidths false) s)) (headOver p)
+        ≡ some (record { trip = countIn (take 5 (drop 0 s)); temps = tempsCase (fives s 12 5) .temps; period = p })
+    head-there h e =
+        let q : numbersIn (fields (headWidths false) s) ≡ some (pos (countIn (take 5 (drop 0 s))) ∷ tempsCase (fives s 12 5) .temps) =
+        parts ∙ rw (number-plus (take 5 (drop 0 s)) h) (ap (before (some (pos (countIn (take 5 (drop 0 s)))))) (temps-some (fives s 12 5) e)) in
+        ap (λ (o : Option (List ℤ)). andThen o (headOver p)) q

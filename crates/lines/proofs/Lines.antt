@@ -13,7 +13,7 @@ use lib.Seq.{take-take, getD-take, getD-drop, length-take-le}
 use borrow.Author.Tests.{ltb-true, ltb-false, eqb-true, eq-eqb, ne-eqb}
 use Rattle.units.proofs.Tests.{and-left, and-right}
 use Rattle.fields.proofs.RoundTrip.{lf-bad}
-use Rattle.lines.specs.Lines.{glue, lines, total, shaped, fields, signedOf, numberIn, before, numbersIn, numbersOf}
+use Rattle.lines.specs.Lines.{glue, lines, firstOf, total, shaped, fields, signedOf, numberIn, before, numbersIn, numbersOf}
 
 -- ---- the first line
 
@@ -21,10 +21,10 @@ pub lineLength : List ℕ → ℕ
 lineLength [] = 0
 lineLength (b ∷ bs) = cond (eqb b 10) 1 (suc (lineLength bs))
 
-first-of : (b : ℕ) (bs : List ℕ) (t : Bool) → lines bs ≡ take (lineLength bs) bs ∷ lines (drop (lineLength bs) bs)
+first-by : (b : ℕ) (bs : List ℕ) (t : Bool) → lines bs ≡ take (lineLength bs) bs ∷ lines (drop (lineLength bs) bs)
     → glue b t (lines bs) ≡ take (cond t 1 (suc (lineLength bs))) (b ∷ bs) ∷ lines (drop (cond t 1 (suc (lineLength bs))) (b ∷ bs))
-first-of b bs true e = refl
-first-of b bs false e = ap (glue b false) e
+first-by b bs true e = refl
+first-by b bs false e = ap (glue b false) e
 
 alone : (b : ℕ) (t : Bool) → glue b t [] ≡ take (cond t 1 1) (b ∷ []) ∷ lines (drop (cond t 1 1) (b ∷ []))
 unfolding lines
@@ -35,9 +35,9 @@ pub first-line : (l : List ℕ) → 0 < length l → lines l ≡ take (lineLengt
 unfolding lines lineLength
 first-line [] h = absurd (omega arith)
 first-line (b ∷ []) h = alone b (eqb b 10)
-first-line (b ∷ d ∷ bs) h = first-of b (d ∷ bs) (eqb b 10) (first-line (d ∷ bs) (omega arith))
+first-line (b ∷ d ∷ bs) h = first-by b (d ∷ bs) (eqb b 10) (first-line (d ∷ bs) (omega arith))
 
-short : (l : List ℕ) → lineLength l ≤ length l
+pub short : (l : List ℕ) → lineLength l ≤ length l
 unfolding lineLength
 short [] = omega arith
 short (b ∷ bs) = by (eqb b 10) (lineLength bs) (length bs) (short bs)
@@ -55,6 +55,26 @@ unfolding lineLength Clear
 line-of n [] h c e = absurd (omega arith)
 line-of zero (b ∷ bs) h c e = rw (eq-eqb b 10 e)
 line-of (suc n) (b ∷ bs) h c e = rw (ne-eqb b 10 (c 0 (omega arith)), line-of n bs (omega arith) (λ i l. c (suc i) (omega arith)) e)
+
+-- the line ends at the first LF at the latest
+pub lf-within : (n : ℕ) (l : List ℕ) → n < length l → getD l n 0 ≡ 10 → lineLength l ≤ suc n
+unfolding lineLength
+lf-within n [] h e = absurd (omega arith)
+lf-within zero (b ∷ bs) h e = rw (eq-eqb b 10 e) (omega arith)
+lf-within (suc n) (b ∷ bs) h e = by (eqb b 10) (lineLength bs) (lf-within n bs (omega arith) e)
+  where
+    by : (t : Bool) (m : ℕ) → m ≤ suc n → cond t 1 (suc m) ≤ suc (suc n)
+    by true m k = omega arith
+    by false m k = omega arith
+
+-- the first line of any bytes, and its length
+pub first-of-lines : (l : List ℕ) → firstOf (lines l) ≡ take (lineLength l) l
+unfolding lines lineLength
+first-of-lines [] = refl
+first-of-lines (b ∷ bs) = ap firstOf (first-line (b ∷ bs) (omega arith))
+
+pub first-length : (l : List ℕ) → length (firstOf (lines l)) ≡ lineLength l
+first-length l = ap length (first-of-lines l) ∙ length-take-le (lineLength l) l (short l)
 
 -- ---- the numbers of fields
 
@@ -112,6 +132,28 @@ fields-take (w ∷ ws) l n h =
     let d : drop w (take n l) ≡ take (n - w) (drop w l) = ap (λ (k : ℕ). drop w (take k l)) m ∙ drop-take w (n - w) l in
     rw (a, d) (ap (λ (fs : List (List ℕ)). take w l ∷ fs) (fields-take ws (drop w l) (n - w) (omega arith)))
 
+-- ---- a line has one shape
+
+pub numbers-back : (ws line : List ℕ) (zs : List ℤ) → numbersOf ws line ≡ some zs → (shaped ws line ≡ true) × (numbersIn (fields ws line) ≡ some zs)
+unfolding numbersOf
+numbers-back ws line zs e = by (shaped ws line) refl e
+  where
+    by : (t : Bool) → shaped ws line ≡ t → cond t (numbersIn (fields ws line)) none ≡ some zs → (shaped ws line ≡ true) × (numbersIn (fields ws line) ≡ some zs)
+    by true p e = (p, e)
+    by false p e = absurd (none-some e)
+
+pub shaped-back : (ws line : List ℕ) → shaped ws line ≡ true → (length line ≡ total ws + 1) × (getD line (total ws) 0 ≡ 10)
+unfolding shaped
+shaped-back ws line e =
+    (eqb-true _ _ (and-left (eqb (length line) (total ws + 1)) _ e), eqb-true _ _ (and-right (eqb (length line) (total ws + 1)) _ e))
+
+-- numbers of one form are none of a form of another width
+pub other-form : (ws vs line : List ℕ) (zs : List ℤ) → numbersOf ws line ≡ some zs → (total ws ≡ total vs → ⊥) → numbersOf vs line ≡ none
+unfolding numbersOf shaped
+other-form ws vs line zs e differ =
+    let p = shaped-back ws line (numbers-back ws line zs e .0) in
+    rw (ne-eqb (length line) (total vs + 1) (λ q. differ (omega (arith, p .0))))
+
 -- ---- the numbers of the first line
 
 module _ (ws l : List ℕ) where
@@ -156,6 +198,14 @@ module _ (ws l : List ℕ) where
       by true e = absurd (h (lf-there e))
       by false e = misshapen e
 
+  -- a line that ends before its fields do
+  pub ends-before : (n : ℕ) → n < total ws → n < length l → getD l n 0 ≡ 10 → numbersOf ws (take (lineLength l) l) ≡ none
+  ends-before n h k e = by (shaped ws (take (lineLength l) l)) refl
+    where
+      by : (t : Bool) → shaped ws (take (lineLength l) l) ≡ t → numbersOf ws (take (lineLength l) l) ≡ none
+      by true p = absurd (omega (arith, ends p, lf-within n l k e))
+      by false p = misshapen p
+
   -- numbers with LF behind them are a line
   module _ (zs : List ℤ) (h : total ws < length l) (lf : getD l (total ws) 0 ≡ 10) (e : numbersIn (fields ws l) ≡ some zs) where
     pub whole-line : lineLength l ≡ total ws + 1
@@ -166,3 +216,11 @@ module _ (ws l : List ℕ) where
     line-numbers =
         let k : total ws < lineLength l = omega (arith, whole-line) in
         rw (eq-eqb _ _ (size ∙ whole-line), eq-eqb _ _ (getD-take (lineLength l) l (total ws) 0 k ∙ lf), fields-take ws l (lineLength l) (omega arith)) e
+
+  -- with LF behind its fields the line says what they do
+  pub same-numbers : total ws < length l → getD l (total ws) 0 ≡ 10 → numbersOf ws (take (lineLength l) l) ≡ numbersIn (fields ws l)
+  same-numbers h lf = by (numbersIn (fields ws l)) refl
+    where
+      by : (o : Option (List ℤ)) → numbersIn (fields ws l) ≡ o → numbersOf ws (take (lineLength l) l) ≡ o
+      by none e = line-cases (λ o. o ≡ none) refl e
+      by (some zs) e = line-numbers zs h lf e

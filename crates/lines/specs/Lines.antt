@@ -2,7 +2,7 @@
 -- Assumes nothing.
 use Prim.Native.Nat.{ℕ, _+_}
 use mathlib.Core.Bool.{Bool, true, false, cond, _&&_}
-use mathlib.Core.List.{List, [], _∷_}
+use mathlib.Core.List.{List, [], _∷_, _++_}
 use mathlib.Core.Option.{Option, none, some}
 use lib.Dec.{eqb}
 use lib.IntN.{ℤ, pos, negℤ}
@@ -22,9 +22,14 @@ unfoldable pub lines : List ℕ → List (List ℕ)
 lines [] = []
 lines (b ∷ bs) = glue b (eqb b 10) (lines bs)
 
--- line 1: L, then twelve T
-unfoldable pub headWidths : List ℕ
-headWidths = replicate 13 5
+-- the first of lines, without bytes where there is none
+abbrev pub firstOf : List (List ℕ) → List ℕ
+firstOf [] = []
+firstOf (l ∷ ls) = l
+
+-- line 1: L, then twelve T; where it is dated the first and the last day follow
+unfoldable pub headWidths : Bool → List ℕ
+headWidths dated = replicate 13 5 ++ cond dated (9 ∷ 9 ∷ []) []
 
 -- the others: class, vehicles, km, three shares, three speeds
 unfoldable pub recordWidths : List ℕ

@@ -8,6 +8,8 @@ use lib.Dec.{ltb}
 use lib.IntN.{ℤ, pos}
 use lib.ListN.{take, drop, replicate}
 use Rattle.fields.specs.Field.{countIn}
+use Rattle.calendar.specs.declared.Period.{Period}
+use Rattle.calendar.specs.declared.Period.the-variants as period
 use Rattle.inventory.specs.declared.Head.{Head}
 use Rattle.inventory.specs.declared.Record.{Record}
 use Rattle.lines.specs.declared.Signed.{Signed}
@@ -15,7 +17,7 @@ use Rattle.lines.specs.declared.Signed.the-variants as signed
 use Rattle.lines.specs.declared.Temps.{Temps}
 use Rattle.lines.specs.declared.HeadLine.{HeadLine}
 use Rattle.lines.specs.declared.RecordLine.{RecordLine}
-use Rattle.lines.specs.Records.{recordWith}
+use Rattle.lines.specs.Records.{andThen, countOf, recordWith}
 
 -- the bytes from a place on cut into fields
 unfoldable pub fieldsFrom : List ℕ → List ℕ → ℕ → List (List ℕ)
@@ -47,7 +49,12 @@ abbrev pub tempsCase : Option (List ℤ) → Temps
 tempsCase (some ts) = record { ok = true; temps = ts }
 tempsCase none = record { ok = false; temps = replicate 12 (pos 0) }
 
--- a head, and whether its fields are numbers
-abbrev pub headCase : Option Head → HeadLine
-headCase (some head) = record { ok = true; head = head }
-headCase none = record { ok = false; head = record { trip = 0; temps = replicate 12 (pos 0) } }
+-- a head over a period: L, which stands without a minus, and the temperatures
+abbrev pub headOver : Period → List ℤ → Option Head
+headOver p [] = none
+headOver p (l ∷ ts) = andThen (countOf l) λ n. some (record { trip = n; temps = ts; period = p })
+
+-- a head, whether it was read, and the bytes of its line
+abbrev pub headCase : ℕ → Option Head → HeadLine
+headCase size (some head) = record { ok = true; head = head; size = size }
+headCase size none = record { ok = false; head = record { trip = 0; temps = replicate 12 (pos 0); period = period.Year }; size = 0 }

@@ -1,10 +1,14 @@
 -- The head and the record of a line (SPECIFICATION, "Sheet").
 -- Assumes nothing.
 use Prim.Native.Nat.{ℕ}
+use mathlib.Core.Bool.{true, false}
 use mathlib.Core.List.{List, [], _∷_}
 use mathlib.Core.Option.{Option, none, some}
 use lib.IntN.{ℤ, pos, negsuc}
-use lib.ListN.{getD}
+use lib.ListN.{getD, take, drop}
+use Rattle.calendar.specs.declared.Period.{Period}
+use Rattle.calendar.specs.declared.Period.the-variants as period
+use Rattle.calendar.specs.Periods.{days}
 use Rattle.inventory.specs.declared.Head.{Head}
 use Rattle.inventory.specs.declared.Record.{Record}
 use Rattle.lines.specs.Lines.{headWidths, recordWidths, before, numbersOf}
@@ -22,14 +26,24 @@ unfoldable pub countsOf : List ℤ → Option (List ℕ)
 countsOf [] = some []
 countsOf (z ∷ zs) = before (countOf z) (countsOf zs)
 
--- L, which stands without a minus, then T
+-- what stands behind the temperatures: nothing, or a first and a last day, both without a minus
+abbrev pub periodWith : List ℤ → Option Period
+periodWith [] = some period.Year
+periodWith (first ∷ []) = none
+periodWith (first ∷ last ∷ zs) = andThen (countOf first) λ a. andThen (countOf last) λ b. some (period.Days (days a b))
+
+-- L, which stands without a minus, then twelve T, then the period
 abbrev pub headWith : List ℤ → Option Head
 headWith [] = none
-headWith (l ∷ ts) = andThen (countOf l) λ n. some (record { trip = n; temps = ts })
+headWith (l ∷ zs) = andThen (countOf l) λ n. andThen (periodWith (drop 12 zs)) λ p. some (record { trip = n; temps = take 12 zs; period = p })
 
--- the head of line 1, none where its shape is wrong
+abbrev pub orElse : {A : Type 0} → Option A → Option A → Option A
+orElse (some x) y = some x
+orElse none y = y
+
+-- the head of line 1 in either form, 13 numbers or 15; none where its shape is wrong
 unfoldable pub headOf : List ℕ → Option Head
-headOf line = andThen (numbersOf headWidths line) headWith
+headOf line = andThen (orElse (numbersOf (headWidths false) line) (numbersOf (headWidths true) line)) headWith
 
 -- class, vehicles, km, three shares, three speeds
 abbrev pub recordWith : List ℕ → Record

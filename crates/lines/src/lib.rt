@@ -1,12 +1,15 @@
 // The numbers of a line of a sheet: the head of line 1, and the record of any other line.
 ghost use mathlib.Core.Path.{_≡_};
+ghost use mathlib.Core.Bool.{false};
 ghost use mathlib.Core.Option.{none};
 ghost use Prim.Native.Nat.{_+_, _≤_};
 ghost use lib.ListN.{length, take, drop, replicate};
 ghost use Rattle.fields.specs.Field.{countIn};
-ghost use Rattle.lines.specs.Lines.{headWidths, recordWidths, fields, numberIn, numbersIn};
-ghost use Rattle.lines.specs.Records.{andThen, headWith};
-ghost use Rattle.lines.specs.Reading.{fieldsFrom, countsIn, recordLine, signedCase, tempsCase, headCase};
+ghost use Rattle.lines.specs.Lines.{lines, firstOf, headWidths, recordWidths, fields, numberIn, numbersIn};
+ghost use Rattle.lines.specs.Records.{andThen, headOf};
+ghost use Rattle.lines.specs.Reading.{fieldsFrom, countsIn, recordLine, signedCase, tempsCase, headOver, headCase};
+use calendar::Days;
+use calendar::Period;
 use fields::Field;
 use fields::NO_NUMBER;
 use inventory::Head;
@@ -27,10 +30,11 @@ struct Temps {
     pub temps: [i64; 12],
 }
 
-// A head, and whether its fields are numbers.
+// A head, whether it was read, and the bytes of its line with LF, 0 where it was not.
 pub struct HeadLine {
     pub ok: bool,
     pub head: Head,
+    pub size: usize,
 }
 
 // A record, and whether its fields are numbers.
@@ -91,21 +95,23 @@ fn read_temps(s: &[u8]) -> Temps
 
 // No head.
 fn no_head() -> HeadLine
-    ensures { λ r. ⌜ r ≡ headCase none ⌝ }
+    ensures { λ r. ⌜ r ≡ headCase 0 none ⌝ }
 {
     HeadLine {
         ok: false,
         head: Head {
             trip: 0,
             temps: [0i64; 12],
+            period: Period::Year,
         },
+        size: 0,
     }
 }
 
-// The head in the first 65 bytes.
-pub fn head_at(s: &[u8]) -> HeadLine
+// The head over a period in the first 65 bytes of a line of so many.
+fn head_at(s: &[u8], period: Period, size: usize) -> HeadLine
     requires { ⌜ 65 ≤ length (now s) ⌝ }
-    ensures { λ r. ⌜ r ≡ headCase (andThen (numbersIn (fields headWidths (now (s .entry)))) headWith) ⌝ }
+    ensures { λ r. ⌜ r ≡ headCase size (andThen (numbersIn (fields (headWidths false) (now (s .entry)))) (headOver period)) ⌝ }
 {
     let trip = count_at(s, 0, 5);
     if NO_NUMBER <= trip {
@@ -118,8 +124,40 @@ pub fn head_at(s: &[u8]) -> HeadLine
     let temps = t.temps;
     HeadLine {
         ok: true,
-        head: Head { trip, temps },
+        head: Head {
+            trip,
+            temps,
+            period,
+        },
+        size,
     }
+}
+
+// The head of line 1: 13 numbers with LF behind them, or 15. LF is no byte of a number, so no other place is searched for it.
+pub fn head_line(s: &[u8]) -> HeadLine
+    ensures { λ r. ⌜ r ≡ headCase (length (firstOf (lines (now (s .entry))))) (headOf (firstOf (lines (now (s .entry))))) ⌝ }
+{
+    if s.len() < 66 {
+        return no_head();
+    }
+    if s[65] == 10 {
+        return head_at(s, Period::Year, 66);
+    }
+    if s.len() < 84 {
+        return no_head();
+    }
+    if s[83] != 10 {
+        return no_head();
+    }
+    let first = count_at(s, 65, 9);
+    if NO_NUMBER <= first {
+        return no_head();
+    }
+    let last = count_at(s, 74, 9);
+    if NO_NUMBER <= last {
+        return no_head();
+    }
+    head_at(s, Period::Days(Days { first, last }), 84)
 }
 
 // The record in the 40 bytes from a place on. A field that is no number makes the sum too large: nine numbers stay below it.

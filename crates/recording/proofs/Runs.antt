@@ -47,7 +47,7 @@ module _ (head : Head) where
   opened-order z = every-list head z .list [] .ordered
 
 -- the fresh run, made from the run of zeros
-pub fresh-made : (head : Head) (z : Run) (xs : List ℕ) → z ≡ zeroRun → xs ≡ coldValues (head .trip) (head .temps)
+pub fresh-made : (head : Head) (z : Run) (xs : List ℕ) → z ≡ zeroRun → xs ≡ coldValues (head .period) (head .trip) (head .temps)
     → _≡_ {A = Run} (record { trip = head .trip; x = xs; count = z .count; km = z .km; grams = z .grams; rests = z .rests }) (freshRun head)
 unfolding freshRun zeroRun emptyRun
 fresh-made head z xs e h = rw (e, h)

@@ -32,7 +32,7 @@ pub fn zeros() -> Run
     }
 }
 
-// Opens a run: 1, then 2; a refused head gives the run of zeros. The last clause is SPECIFICATION, "Accuracy", for every list of adds.
+// Opens a run: 1, 2, 19, 20; a refused head gives the run of zeros. The last clause is SPECIFICATION, "Accuracy", for every list of adds.
 pub fn open_run(head: Head) -> Opened
     ensures number { λ r. ⌜ verdictNumber (r .verdict) ≡ openNumber head ⌝ }
     ensures run { λ r. ⌜ r .run ≡ openRun head ⌝ }
@@ -50,8 +50,9 @@ pub fn open_run(head: Head) -> Opened
         Verdict::Taken => {}
     }
     let temps = head.temps;
+    let period = head.period;
     run.trip = head.trip;
-    let x = cold_values::cold_values(head.trip, &temps);
+    let x = cold_values::cold_values(head.trip, &temps, period);
     run.x = x;
     Opened {
         run,

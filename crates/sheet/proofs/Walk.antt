@@ -17,13 +17,13 @@ use Rattle.inventory.specs.Opening.{openNumber, openRun}
 use Rattle.inventory.specs.Adding.{addNumber, addRun}
 use Rattle.lines.specs.declared.RecordLine.{RecordLine}
 use Rattle.lines.specs.declared.HeadLine.{HeadLine}
-use Rattle.lines.specs.Lines.{lines, headWidths, recordWidths, total, fields, numbersIn, numbersOf}
-use Rattle.lines.specs.Records.{andThen, countsOf, headWith, headOf, recordWith, recordOf}
+use Rattle.lines.specs.Lines.{lines, firstOf, headWidths, recordWidths, total, shaped, fields, numbersIn, numbersOf}
+use Rattle.lines.specs.Records.{andThen, countsOf, headOf, recordWith, recordOf}
 use Rattle.lines.specs.Reading.{fieldsFrom, countsIn, together, recordLine, headCase}
-use Rattle.lines.proofs.Lines.{lineLength, first-line, line-cases, too-short, no-lf, whole-line, line-numbers}
+use Rattle.lines.proofs.Lines.{lineLength, first-line, short, first-length, line-cases, too-short, no-lf, whole-line, line-numbers}
 use Rattle.lines.proofs.Counts.{fields-from, sumList, counts-good, counts-bad}
 use Rattle.sheet.specs.declared.Sheet.{Sheet}
-use Rattle.sheet.specs.Sheet.{Outcome, refusedAt, decided, fromRecords, fromHead, sheetOf}
+use Rattle.sheet.specs.Sheet.{Outcome, refusedAt, decided, fromRecords, headNumber, headRun, fromHead, sheetOf}
 use Rattle.sheet.specs.Reading.{Gives}
 
 -- an answer gives what it gives, however that is written
@@ -162,42 +162,42 @@ at-last run n s at h = rw (drop-of-length-le s h)
 -- ---- the head line
 
 -- the empty sheet has none
-head-some : (s : List ℕ) → (0 < length s → sheetOf s ≡ refusedAt 10 1) → sheetOf s ≡ refusedAt 10 1
-unfolding sheetOf fromHead lines
-head-some [] f = refl
-head-some (b ∷ bs) f = f (omega arith)
+empty-sheet : sheetOf [] ≡ decided (headNumber (headOf (firstOf (lines [])))) 1 (fromRecords (headRun (headOf (firstOf (lines [])))) 2 (lines (drop (length (firstOf (lines []))) [])))
+unfolding sheetOf fromHead lines decided headOf numbersOf shaped headWidths total
+empty-sheet = refl
+
+some-sheet : (s : List ℕ) → 0 < length s → sheetOf s
+    ≡ decided (headNumber (headOf (firstOf (lines s)))) 1 (fromRecords (headRun (headOf (firstOf (lines s)))) 2 (lines (drop (lineLength s) s)))
+unfolding sheetOf fromHead
+some-sheet s h = rw (first-line s h)
 
 module _ (s : List ℕ) where
-  head-none : 0 < length s → andThen (numbersOf headWidths (take (lineLength s) s)) headWith ≡ none → sheetOf s ≡ refusedAt 10 1
-  unfolding sheetOf fromHead decided headOf
-  head-none h e = rw (first-line s h, e)
+  -- the first line, and what comes behind it
+  by-first : sheetOf s
+      ≡ decided (headNumber (headOf (firstOf (lines s)))) 1 (fromRecords (headRun (headOf (firstOf (lines s)))) 2 (lines (drop (length (firstOf (lines s))) s)))
+  by-first = by s refl
+    where
+      by : (l : List ℕ) → s ≡ l → sheetOf l
+          ≡ decided (headNumber (headOf (firstOf (lines l)))) 1 (fromRecords (headRun (headOf (firstOf (lines l)))) 2 (lines (drop (length (firstOf (lines l))) l)))
+      by [] e = empty-sheet
+      by (b ∷ bs) e = rw (first-length (b ∷ bs)) (some-sheet (b ∷ bs) (omega arith))
 
-  pub head-short : length s < 66 → sheetOf s ≡ refusedAt 10 1
-  unfolding total headWidths
-  head-short k = head-some s (λ h. head-none h (made-short headWith headWidths s (omega arith)))
+  pub head-misread : headOf (firstOf (lines s)) ≡ none → sheetOf s ≡ refusedAt 10 1
+  unfolding decided
+  head-misread e = by-first ∙ rw e
 
-  pub head-no-lf : 65 < length s → (getD s 65 0 ≡ 10 → ⊥) → sheetOf s ≡ refusedAt 10 1
-  unfolding total headWidths
-  head-no-lf k h = head-none (omega arith) (made-no-lf headWith headWidths s h)
+  pub head-read : (head : Head) → headOf (firstOf (lines s)) ≡ some head
+      → sheetOf s ≡ decided (openNumber head) 1 (fromRecords (openRun head) 2 (lines (drop (length (firstOf (lines s))) s)))
+  head-read head e = by-first ∙ rw e
 
-  pub head-misread : 65 < length s → andThen (numbersIn (fields headWidths s)) headWith ≡ none → sheetOf s ≡ refusedAt 10 1
-  head-misread k e = head-none (omega arith) (made-none headWith headWidths s e)
+  pub first-most : length (firstOf (lines s)) ≤ length s
+  first-most = rw (first-length s) (short s)
 
-  pub head-read : (head : Head) → 65 < length s → getD s 65 0 ≡ 10 → andThen (numbersIn (fields headWidths s)) headWith ≡ some head
-      → sheetOf s ≡ decided (openNumber head) 1 (fromRecords (openRun head) 2 (lines (drop 66 s)))
-  unfolding sheetOf fromHead headOf total headWidths
-  head-read head k lf e =
-      rw (
-        first-line s (omega arith),
-        made-some headWith headWidths s head k lf e,
-        made-length headWith headWidths s head k lf e,
-      )
+-- what `head_line` gives
+pub no-head : (r : HeadLine) (n : ℕ) (o : Option Head) → r ≡ headCase n o → r .ok ≡ false → o ≡ none
+no-head r n none e h = refl
+no-head r n (some head) e h = let y : _≡_ {A = Bool} true false = sym (ap (λ (q : HeadLine). q .ok) e) ∙ h in let z : _≡_ {A = ℕ} 0 1 = cc in absurd (omega arith)
 
--- what `head_at` gives
-pub no-head : (r : HeadLine) (o : Option Head) → r ≡ headCase o → r .ok ≡ false → o ≡ none
-no-head r none e h = refl
-no-head r (some head) e h = let y : _≡_ {A = Bool} true false = sym (ap (λ (q : HeadLine). q .ok) e) ∙ h in let z : _≡_ {A = ℕ} 0 1 = cc in absurd (omega arith)
-
-pub its-head : (r : HeadLine) (o : Option Head) → r ≡ headCase o → r .ok ≡ true → o ≡ some (r .head)
-its-head r none e h = let y : _≡_ {A = Bool} false true = sym (ap (λ (q : HeadLine). q .ok) e) ∙ h in let z : _≡_ {A = ℕ} 0 1 = cc in absurd (omega arith)
-its-head r (some head) e h = ap (λ (q : HeadLine). some (q .head)) (sym e)
+pub its-head : (r : HeadLine) (n : ℕ) (o : Option Head) → r ≡ headCase n o → r .ok ≡ true → (o ≡ some (r .head)) × (r .size ≡ n)
+its-head r n none e h = let y : _≡_ {A = Bool} false true = sym (ap (λ (q : HeadLine). q .ok) e) ∙ h in let z : _≡_ {A = ℕ} 0 1 = cc in absurd (omega arith)
+its-head r n (some head) e h = (ap (λ (q : HeadLine). some (q .head)) (sym e), ap (λ (q : HeadLine). q .size) e)

@@ -40,7 +40,7 @@ unfoldable pub fromRecords : Run → ℕ → List (List ℕ) → Outcome
 fromRecords run n [] = record { number = 0; line = 0; run = run }
 fromRecords run n (l ∷ ls) = decided (lineNumber run (recordOf l)) n (fromRecords (lineRun run (recordOf l)) (n + 1) ls)
 
--- in the head line 10, then 1, 2
+-- in the head line 10, then 1, 2, 19, 20
 abbrev pub headNumber : Option Head → ℕ
 headNumber none = 10
 headNumber (some head) = openNumber head

@@ -94,13 +94,7 @@ pub fn read_sheet(text: &[u8]) -> Sheet
     ensures line { λ r. ⌜ r .line ≡ sheetLine (now (text .entry)) ⌝ }
     ensures run { λ r. ⌜ r .run ≡ sheetRun (now (text .entry)) ⌝ }
 {
-    if text.len() < 66 {
-        return sent_back(Refusal::LineShape, 1);
-    }
-    if text[65] != 10 {
-        return sent_back(Refusal::LineShape, 1);
-    }
-    let line = lines::head_at(text);
+    let line = lines::head_line(text);
     if !line.ok {
         return sent_back(Refusal::LineShape, 1);
     }
@@ -114,5 +108,6 @@ pub fn read_sheet(text: &[u8]) -> Sheet
         Verdict::Taken => {}
     }
     let first = opened.run;
-    read_records(text, 66, first)
+    let from = line.size;
+    read_records(text, from, first)
 }

@@ -1,4 +1,5 @@
 // Fills 400 runs with 5,000 records each and prints the sums: the time of an add, beside bench/add_in_place.rs.
+use calendar::Period;
 use inventory::Head;
 use inventory::Record;
 use inventory::Run;
@@ -52,6 +53,7 @@ fn main() {
     let opened = recording::open_run(Head {
         trip: 120,
         temps: [-50, 0, 50, 100, 150, 200, 200, 200, 150, 100, 50, 0],
+        period: Period::Year,
     });
     let fresh = opened.run;
     let mut run = fresh;

@@ -43,6 +43,13 @@ term-most f zero i h = absurd (omega arith)
 term-most f (suc n) i h =
     ⊎-elim (λ (e : i ≡ n). rw e (omega arith)) (λ (l : i < n). omega (arith, term-most f n i l)) (eq-or-lt-of-le (le-of-suc-le-suc h))
 
+-- a sum over fewer terms is not more
+pub fewer-terms : (f : ℕ → ℕ) (m n : ℕ) → m ≤ n → sumTo f m ≤ sumTo f n
+unfolding sumTo
+fewer-terms f m zero h = let e : m ≡ 0 = omega arith in rw e (omega arith)
+fewer-terms f m (suc n) h =
+    ⊎-elim (λ (a : m ≤ n). omega (arith, fewer-terms f m n a)) (λ (b : n < m). (let e : m ≡ suc n = omega arith in rw e (omega arith))) (le-or-lt m n)
+
 -- a sum is at most m for each of its terms, and what they have beyond m
 pub sum-beyond : (f : ℕ → ℕ) (m n : ℕ) → sumTo f n ≤ m * n + sumTo (λ i. f i - m) n
 unfolding sumTo

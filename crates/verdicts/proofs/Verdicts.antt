@@ -15,6 +15,7 @@ use Rattle.units.specs.Refusals.{refusalNumber, verdictNumber}
 use Rattle.units.proofs.Grounds.{fit-append, numbered, passed}
 use Rattle.units.proofs.Refusals.{number-positive, taken-number, refused-number}
 use Rattle.units.proofs.Tests.{or-true}
+use Rattle.calendar.specs.Periods.{periodGrounds}
 use Rattle.inventory.specs.declared.Head.{Head}
 use Rattle.inventory.specs.declared.Record.{Record}
 use Rattle.inventory.specs.Records.{monthOk, temperaturesWrong, headGrounds, vehicleKm, sharesWrong, speedsWrong, recordGrounds}
@@ -31,9 +32,9 @@ module _ (head : Head) where
   unfolding headGrounds firstFit temperaturesWrong
   bad-temperature h t = rw (h, t)
 
-  pub good-head : outside 10 200 (head .trip) ≡ false → allBelow (monthOk head) 12 ≡ true → 0 ≡ firstFit (headGrounds head)
+  pub by-period : outside 10 200 (head .trip) ≡ false → allBelow (monthOk head) 12 ≡ true → firstFit (periodGrounds (head .period)) ≡ firstFit (headGrounds head)
   unfolding headGrounds firstFit temperaturesWrong
-  good-head h t = rw (h, t)
+  by-period h t = rw (h, t)
 
 -- ---- shares and speeds
 

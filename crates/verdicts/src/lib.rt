@@ -23,7 +23,7 @@ fn temperatures_ok(head: Head) -> bool
     true
 }
 
-// Whether a head is refused: 1, then 2.
+// Whether a head is refused: 1, then 2, then by its period.
 pub fn head_verdict(head: Head) -> Verdict
     ensures { λ v. ⌜ verdictNumber v ≡ firstFit (headGrounds head) ⌝ }
 {
@@ -33,7 +33,8 @@ pub fn head_verdict(head: Head) -> Verdict
     if !temperatures_ok(head) {
         return Verdict::Refused(Refusal::Temperature);
     }
-    Verdict::Taken
+    let period = head.period;
+    calendar::period_verdict(period)
 }
 
 // Whether a share is over 100, or the sum is not 100.

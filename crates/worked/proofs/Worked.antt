@@ -14,6 +14,8 @@ use Rattle.units.specs.Fractions.{over, plus}
 use Rattle.curves.specs.Curves.{quadratic}
 use Rattle.classes.specs.Classes.{fuelOf, hasCold, hasOwnX, betaReduction, xPlace}
 use Rattle.factors.specs.Factors.{coefficients, twoStroke, curve, emissionFactor}
+use Rattle.calendar.specs.Calendar.{isLeap, monthLength, noDay, dayNumber}
+use Rattle.calendar.specs.Periods.{periodGrounds, daysIn, daysOf}
 use Rattle.coldstart.specs.ColdStart.{temperatureOk, coldShare, slopes, coldRatio, coldExcess, monthProduct, coldSum, xFrom, coldX, coldFactor}
 use Rattle.inventory.specs.declared.Record.{Record}
 use Rattle.inventory.specs.Records.{temperaturesWrong, headGrounds, vehicleKm, sharesWrong, speedsWrong, recordGrounds}
@@ -46,7 +48,7 @@ many-accepted zero k h = refl
 many-accepted (suc n) k h = rw (lt-ltb k 5000 (omega arith), many-accepted n (k + 1) (omega arith))
 
 taken : openNumber exampleHead ≡ 0
-unfolding tab allBelow outside firstFit temperatureOk temperaturesWrong headGrounds openNumber
+unfolding tab allBelow outside firstFit temperatureOk periodGrounds temperaturesWrong headGrounds openNumber
 taken = refl
 
 count-many : (n : ℕ) → n ≤ 5000 → runAfter (openRun exampleHead) (many n) .count ≡ n
@@ -60,7 +62,7 @@ unfolding addNumber addGrounds firstFit recordGrounds outside vehicleKm sharesWr
 next-number n h = rw (every-list exampleHead taken .list (many n) .ordered, count-many n h)
 
 pub worked : WorkedClaim
-unfolding tab allBelow sumTo outside firstFit halfUp plus fuelOf hasCold hasOwnX betaReduction xPlace coefficients twoStroke quadratic curve emissionFactor temperatureOk coldShare slopes coldRatio coldExcess monthProduct coldSum xFrom coldX coldFactor temperaturesWrong headGrounds vehicleKm sharesWrong speedsWrong recordGrounds sumAt sumWithin inOrder billionths hotPart coldRate coldPart partOf partAt slotAfter kmOf kmAfter runWith addGrounds addNumber addRun emptyRun freshRun openNumber openRun exactTotal printedTotal totalGrounds answered totalOf acceptable hasRoom accepts exactHot exactCold exactOf empty withRecord fed referenceFrom referenceOf runAfter accepted kmSum brings exactIn
+unfolding isLeap monthLength noDay dayNumber daysIn daysOf tab allBelow sumTo outside firstFit halfUp plus fuelOf hasCold hasOwnX betaReduction xPlace coefficients twoStroke quadratic curve emissionFactor temperatureOk coldShare slopes coldRatio coldExcess monthProduct coldSum xFrom coldX coldFactor periodGrounds temperaturesWrong headGrounds vehicleKm sharesWrong speedsWrong recordGrounds sumAt sumWithin inOrder billionths hotPart coldRate coldPart partOf partAt slotAfter kmOf kmAfter runWith addGrounds addNumber addRun emptyRun freshRun openNumber openRun exactTotal printedTotal totalGrounds answered totalOf acceptable hasRoom accepts exactHot exactCold exactOf empty withRecord fed referenceFrom referenceOf runAfter accepted kmSum brings exactIn
 worked =
     let all : acceptedFrom 0 (many 5000) ≡ many 5000 = many-accepted 5000 0 (lit≤ tt) in
     record {
@@ -68,14 +70,16 @@ worked =
       three-fuels = record { totals = refl; counted = refl; distance = refl; numerators = refl; denominators = refl };
       class-3 = record { totals = refl; counted = refl; distance = refl; numerators = refl; denominators = refl };
       classes-2-and-3 = record { totals = refl; counted = refl; distance = refl; numerators = refl; denominators = refl };
+      full-year = record { totals = refl; counted = refl; distance = refl; numerators = refl; denominators = refl };
+      one-day = record { totals = refl; counted = refl; distance = refl; numerators = refl; denominators = refl };
       last-taken = next-number 4999 (lit≤ tt);
       next-refused = next-number 5000 (lit≤ tt);
       full-count = refl;
       full-km = reference-km exampleHead (many 5000) 0 ∙ ap (λ l. kmSum l 0) all ∙ many-sum (λ rec. kmOf rec 0) 5000;
       full-exact =
           reference-exact exampleHead (many 5000) 0 0
-          ∙ ap (λ l. over (sumOf (exactIn exampleHead 0 0) l) exactDenominator) all
-          ∙ ap (λ n. over n exactDenominator) (many-sum (exactIn exampleHead 0 0) 5000);
+          ∙ ap (λ l. over (sumOf (exactIn exampleHead 0 0) l) (exactDenominator exampleHead)) all
+          ∙ ap (λ n. over n (exactDenominator exampleHead)) (many-sum (exactIn exampleHead 0 0) 5000);
       full-total =
           ap (λ run. printedTotal run 0 0) (after exampleHead taken (many 5000) ∙ ap (closed (exampleHead .trip) (headX exampleHead)) all)
           ∙ ap (λ n. halfUp n 1000000000) (total-closed (exampleHead .trip) (headX exampleHead) (many 5000) 0 0 (lit< tt) (lit< tt) ∙ many-sum (brings (headX exampleHead) 0 0) 5000);

@@ -55,8 +55,8 @@ cold-excess-requires c κs =
 
 -- the new sum, and the bounds of the month and of the sum
 turn : (c : tie.After-cold-excess Inv-loop μ-loop) →
-    (c .before .before .before .before .before .args .b * c .cold-excess .result ≤ 5400000000000) ×
-    (getD (c .before .before .before .before .loop .r) (c .before .before .before .before .loop .i) 0 ≤ 58800000000000) ×
+    (c .before .before .before .before .before .args .b * c .cold-excess .result ≤ 151200000000000) ×
+    (getD (c .before .before .before .before .loop .r) (c .before .before .before .before .loop .i) 0 ≤ 1814000000000000) ×
     (getD (c .before .before .before .before .loop .r) (c .before .before .before .before .loop .i) 0 + c .before .before .before .before .before .args .b * c .cold-excess .result ≡
     withMonth (c .before .before .before .before .before .args .sums) (c .before .before .before .before .before .args .b) (toZ w64 (ofZ w64 (c .before .before .before .before .before .args .t))) (c .before .before .before .before .loop .i))
 unfolding withMonth entry
@@ -66,8 +66,8 @@ turn c =
     let h : i < 15 = omega arith in
     let e = c .cold-excess .ensures ∙ ap (λ g. coldExcess g (toZ w64 (ofZ w64 (s .args .t)))) (entry-read i h (s .args .table .now) (s .pre .0)) in
     let old = c .before .before .before .before .loop .inv .1 .above i (omega arith) in (
-      mul-most _ _ 100000000 54000 (s .pre .2) (subst (λ n. n ≤ 54000) (sym e) (excess-most (entry i) _ (entry-limits i h) (read-ok _ (s .pre .3)))),
-      subst (λ n. n ≤ 58800000000000) (sym old) (s .pre .1 .each i h),
+      mul-most _ _ 2800000000 54000 (s .pre .2) (subst (λ n. n ≤ 54000) (sym e) (excess-most (entry i) _ (entry-limits i h) (read-ok _ (s .pre .3)))),
+      subst (λ n. n ≤ 1814000000000000) (sym old) (s .pre .1 .each i h),
       λ j. old j + s .args .b * e j,
     )
 

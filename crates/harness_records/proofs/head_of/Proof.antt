@@ -43,9 +43,26 @@ loop-again c = let l = c .before .before .loop in let z : toZ w64 (ofZ w64 (c .s
 number-requires : tie.Need-number-requires Inv-loop μ-loop
 number-requires c κs = search needs
 
+number-requires-2 : tie.Need-number-requires-2 Inv-loop μ-loop
+number-requires-2 c κs = search needs
+
+number-requires-3 : tie.Need-number-requires-3 Inv-loop μ-loop
+number-requires-3 c κs = search needs
+
+period-from-requires : tie.Need-period-from-requires Inv-loop μ-loop
+period-from-requires c κs = search needs
+
 returns : tie.Need-returns Inv-loop μ-loop
 unfolding headAt
-returns c = rw (c .number .ensures, filled (c .before .before .loop .inv .1) (c .before .before .loop .inv .0) (c .before .loop-test .left))
+returns c =
+    let l = c .before .before .before .before .before .loop in
+    rw (
+      c .period-from .ensures,
+      c .before .number3 .ensures,
+      c .before .before .number2 .ensures,
+      c .before .before .before .number .ensures,
+      filled (l .inv .1) (l .inv .0) (c .before .before .before .before .loop-test .left),
+    )
 
 pub head-of-spec : {M : Type 1} → statement M
 head-of-spec =
@@ -62,4 +79,7 @@ head-of-spec =
     loop-less
     loop-again
     number-requires
+    number-requires-2
+    number-requires-3
+    period-from-requires
     returns)
