@@ -161,10 +161,10 @@ module _ (d : Days) (p : TakenPeriod d) where
       let ra = range a (omega (arith, p .first .month-low, p .first .month-high)) in
       let rb = range b (omega (arith, p .last .month-low, p .last .month-high)) in
       let t = total (lengthIn d) range (yearOf (d .first)) a (dayOf (d .first)) b (dayOf (d .last)) (p .first .day-low) first-length (p .last .day-low) last-length
-          (omega (arith, p .last .month-high)) (omega (arith, p .in-turn, date-first, date-last)) (omega (arith, last-length, rb .1)) (omega (arith, first-length, ra .1)) in
+      (omega (arith, p .last .month-high)) (omega (arith, p .in-turn, date-first, date-last)) (omega (arith, last-length, rb .1)) (omega (arith, first-length, ra .1)) in
       let e : sumTo (daysIn d) 12 ≡ sumTo (weight (lengthIn d) range (yearOf (d .first)) a (dayOf (d .first)) b (dayOf (d .last)) (p .first .day-low) first-length (p .last .day-low) last-length
-          (omega (arith, p .last .month-high)) (omega (arith, p .in-turn, date-first, date-last)) (omega (arith, last-length, rb .1)) (omega (arith, first-length, ra .1))) 12 =
-          sum-alike _ _ 12 (λ k h. days-in d k ∙ rw (date-first, date-last)) in
+      (omega (arith, p .last .month-high)) (omega (arith, p .in-turn, date-first, date-last)) (omega (arith, last-length, rb .1)) (omega (arith, first-length, ra .1))) 12 =
+      sum-alike _ _ 12 (λ k h. days-in d k ∙ rw (date-first, date-last)) in
       omega (arith, t, e, last-number)
 
   in-order : dayNumber (d .first) ≤ dayNumber (d .last)

@@ -39,7 +39,7 @@ fn with_month(table: &[[u64; 2]; 15], sums: [u64; 15], b: u64, t: i64) -> [u64; 
 }
 
 // The 16 values X of the sums over the months of a period of this weight, half up; the last is that of CO of class 3.
-fn rounded(sums: [u64; 15], weight: u64) -> [u64; 16]
+fn quotients(sums: [u64; 15], weight: u64) -> [u64; 16]
     requires { ⌜ SmallSums sums × (0 < weight) × (weight ≤ 366) ⌝ }
     ensures { λ r. ⌜ r ≡ tab (xOfSums weight sums) xCount ⌝ }
 {
@@ -53,6 +53,17 @@ fn rounded(sums: [u64; 15], weight: u64) -> [u64; 16]
     x
 }
 
+// The same, where no dates are the usual case: a divisor that the compiler knows needs no division.
+fn rounded(sums: [u64; 15], weight: u64) -> [u64; 16]
+    requires { ⌜ SmallSums sums × (0 < weight) × (weight ≤ 366) ⌝ }
+    ensures { λ r. ⌜ r ≡ tab (xOfSums weight sums) xCount ⌝ }
+{
+    if weight == 12 {
+        return quotients(sums, 12);
+    }
+    quotients(sums, weight)
+}
+
 // The 16 values X from the table: months outside, so that the share is computed once for each.
 fn values_of(table: &[[u64; 2]; 15], l: u64, temps: &[i64; 12], period: Period) -> [u64; 16]
     requires { ⌜ (now table ≡ pairs slopes) × Climate period l (now temps) ⌝ }
@@ -62,10 +73,15 @@ fn values_of(table: &[[u64; 2]; 15], l: u64, temps: &[i64; 12], period: Period) 
     let months = weights.months;
     let mut sums = [0u64; 15];
     for k in 0..12 {
+        let weight = months[k];
+        // A month outside the period adds nothing.
+        if weight == 0 {
+            continue;
+        }
         let t = temps[k];
         let share = coldstart::cold_share(l, t);
         // A local of its own: the prover takes no call that writes the array that it reads.
-        let next = with_month(table, sums, months[k] * share, t);
+        let next = with_month(table, sums, weight * share, t);
         sums = next;
     }
     rounded(sums, weights.whole)

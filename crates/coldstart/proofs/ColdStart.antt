@@ -234,6 +234,11 @@ sums-more w l ts k =
     (λ i h.
     rw (tab-at 0 (sumsTo w l ts k) 15 i h) (ap (λ n. sumTo (λ m. w m * monthAt l (entry i) ts m) k + n) (mul-assoc (w k) _ _))))
 
+-- a month that weighs nothing adds nothing
+pub sums-kept : (w : ℕ → ℕ) (l : ℕ) (ts : List ℤ) (k : ℕ) → w k ≡ 0 → tab (sumsTo w l ts k) 15 ≡ tab (sumsTo w l ts (k + 1)) 15
+unfolding sumsTo sumTo
+sums-kept w l ts k e = rw add-one (tab-alike _ _ 15 (λ i h. rw e (omega arith)))
+
 -- twelve months that weigh what the period says make X
 module _ (period : Period) (l : ℕ) (ts : List ℤ) where
   made-x : tab (xOfSums (periodWeight period) (tab (sumsTo (monthWeight period) l ts 12) 15)) xCount ≡ coldValues period l ts

@@ -170,8 +170,8 @@ fn lines(b: &[u8], bytes: &mut [u8]) {
 }
 
 // Room for the cases.
-fn case_space() -> [u8; 524288] {
-    [0; 524288]
+fn case_space() -> [u8; 1048576] {
+    [0; 1048576]
 }
 
 // Room for one sheet.

@@ -228,8 +228,8 @@ fn lines(b: &[u8]) {
 }
 
 // Room for the cases.
-fn space() -> [u8; 262144] {
-    [0; 262144]
+fn space() -> [u8; 524288] {
+    [0; 524288]
 }
 
 fn main() {

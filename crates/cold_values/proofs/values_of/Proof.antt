@@ -13,7 +13,7 @@ use Rattle.calendar.specs.declared.Period.{Period}
 use Rattle.calendar.specs.Periods.{monthWeight}
 use Rattle.calendar.proofs.Periods.{weight-positive, weight-high, weight-most}
 use Rattle.coldstart.specs.ColdStart.{coldShare, withMonth, xOfSums}
-use Rattle.coldstart.proofs.ColdStart.{read, read-ok, share-whole, small-sums, sumsTo, sums-more, sums-x}
+use Rattle.coldstart.proofs.ColdStart.{read, read-ok, share-whole, small-sums, sumsTo, sums-more, sums-kept, sums-x}
 use Rattle.cold_values.proofs.values_of.Statement.{statement}
 use Rattle.cold_values.proofs.values_of.Tie as tie
 
@@ -40,45 +40,11 @@ loop-holds : tie.Need-loop-holds Inv-loop μ-loop
 unfolding tab sumsTo sumTo
 loop-holds c = (omega arith, refl)
 
-mul-t : tie.Need-mul-t Inv-loop μ-loop
-mul-t c = omega arith
+mul-weight : tie.Need-mul-weight Inv-loop μ-loop
+mul-weight c = omega arith
 
-element-copy-out-t : tie.Need-element-copy-out-t Inv-loop μ-loop
-element-copy-out-t c = omega arith
-
-cold-share-requires : tie.Need-cold-share-requires Inv-loop μ-loop
-cold-share-requires c κs =
-    let w = c .before .before .before .before .before .pre .1 in
-    (w .trip-low, w .trip-high, read-ok _ (w .temperatures (c .before .before .loop .k) (omega arith)))
-
-mul-with-month : tie.Need-mul-with-month Inv-loop μ-loop
-mul-with-month c = omega arith
-
-array-read-with-month : tie.Need-array-read-with-month Inv-loop μ-loop
-array-read-with-month c = omega arith
-
--- weight × share is at most 31 × 90,265,000
-month : (c : tie.After-cold-share Inv-loop μ-loop) →
-    weightIn (c .before .before .before .before .before .weights-of .result .months) (c .before .before .before .loop .k) * c .cold-share .result ≤ 31 * 90265000
-month c =
-    let s = c .before .before .before .before .before .before in
-    let w = s .pre .1 in
-    let k = c .before .before .before .loop .k in
-    let ok = read-ok _ (w .temperatures k (omega arith)) in
-    mul-most _ _ 31 90265000 (light (s .args .period) _ (c .before .before .before .before .before .weights-of .ensures .0) k (omega arith))
-    (omega (arith, c .cold-share .ensures, share-whole (s .args .l) (w .trip-low) (w .trip-high) _ ok .most))
-
-mul-with-month-2 : tie.Need-mul-with-month-2 Inv-loop μ-loop
-mul-with-month-2 c = omega (arith, month c)
-
-with-month-requires : tie.Need-with-month-requires Inv-loop μ-loop
-with-month-requires c κs =
-    let s = c .before .before .before .before .before .before in
-    let w = s .pre .1 in
-    let l = c .before .before .before .loop in
-    let e = c .before .before .before .before .before .weights-of .ensures .0 in
-    let ok = read-ok _ (w .temperatures (l .k) (omega arith)) in
-    (s .pre .0, small-sums _ _ _ w _ (light (s .args .period) _ e) (l .k) _ (omega arith) (l .inv .1), omega (arith, month c), ok)
+array-read-weight : tie.Need-array-read-weight Inv-loop μ-loop
+array-read-weight c = omega arith
 
 add-k : tie.Need-add-k Inv-loop μ-loop
 add-k c = omega arith
@@ -88,9 +54,55 @@ loop-less c = omega arith
 
 loop-again : tie.Need-loop-again Inv-loop μ-loop
 loop-again c =
+    let l = c .before .before .loop in
+    let months = c .before .before .before .before .weights-of .result .months in
+    (omega arith, l .inv .1 ∙ sums-kept (weightIn months) _ _ (l .k) (c .if1 .taken))
+
+mul-t : tie.Need-mul-t Inv-loop μ-loop
+mul-t c = omega arith
+
+element-copy-out-t : tie.Need-element-copy-out-t Inv-loop μ-loop
+element-copy-out-t c = omega arith
+
+cold-share-requires : tie.Need-cold-share-requires Inv-loop μ-loop
+cold-share-requires c κs =
+    let w = c .before .before .before .before .before .before .pre .1 in
+    (w .trip-low, w .trip-high, read-ok _ (w .temperatures (c .before .before .before .loop .k) (omega arith)))
+
+-- weight × share is at most 31 × 90,265,000
+month : (c : tie.After-cold-share Inv-loop μ-loop) →
+    weightIn (c .before .before .before .before .before .before .weights-of .result .months) (c .before .before .before .before .loop .k) * c .cold-share .result ≤ 31 * 90265000
+month c =
     let s = c .before .before .before .before .before .before .before in
+    let w = s .pre .1 in
+    let k = c .before .before .before .before .loop .k in
+    let ok = read-ok _ (w .temperatures k (omega arith)) in
+    mul-most _ _ 31 90265000 (light (s .args .period) _ (c .before .before .before .before .before .before .weights-of .ensures .0) k (omega arith))
+    (omega (arith, c .cold-share .ensures, share-whole (s .args .l) (w .trip-low) (w .trip-high) _ ok .most))
+
+mul-with-month : tie.Need-mul-with-month Inv-loop μ-loop
+mul-with-month c = omega (arith, month c)
+
+with-month-requires : tie.Need-with-month-requires Inv-loop μ-loop
+with-month-requires c κs =
+    let s = c .before .before .before .before .before .before .before in
+    let w = s .pre .1 in
     let l = c .before .before .before .before .loop in
-    let months = c .before .before .before .before .before .before .weights-of .result .months in
+    let e = c .before .before .before .before .before .before .weights-of .ensures .0 in
+    let ok = read-ok _ (w .temperatures (l .k) (omega arith)) in
+    (s .pre .0, small-sums _ _ _ w _ (light (s .args .period) _ e) (l .k) _ (omega arith) (l .inv .1), omega (arith, month c), ok)
+
+add-k-2 : tie.Need-add-k-2 Inv-loop μ-loop
+add-k-2 c = omega arith
+
+loop-less-2 : tie.Need-loop-less-2 Inv-loop μ-loop
+loop-less-2 c = omega arith
+
+loop-again-2 : tie.Need-loop-again-2 Inv-loop μ-loop
+loop-again-2 c =
+    let s = c .before .before .before .before .before .before .before .before in
+    let l = c .before .before .before .before .before .loop in
+    let months = c .before .before .before .before .before .before .before .weights-of .result .months in
     let t = getD (s .args .temps .now) (l .k) (pos 0) in
     let r = read t (s .pre .1 .temperatures (l .k) (omega arith)) in
     let b = c .before .cold-share .ensures ∙ ap (λ z. natAbs (coldShare (s .args .l) z)) r in
@@ -101,9 +113,11 @@ rounded-requires c κs =
     let s = c .before .before .before .before in
     let l = c .before .loop in
     let e = c .before .before .before .weights-of .ensures in
-    let z = s .pre .1 .dated in
-    (small-sums _ _ _ (s .pre .1) _ (light (s .args .period) _ (e .0)) (l .k) _ (omega arith) (l .inv .1),
-    rw (e .1) (weight-positive (s .args .period) z), rw (e .1) (weight-high (s .args .period) z))
+    let z = s .pre .1 .dated in (
+      small-sums _ _ _ (s .pre .1) _ (light (s .args .period) _ (e .0)) (l .k) _ (omega arith) (l .inv .1),
+      rw (e .1) (weight-positive (s .args .period) z),
+      rw (e .1) (weight-high (s .args .period) z),
+    )
 
 returns : tie.Need-returns Inv-loop μ-loop
 returns c =
@@ -124,15 +138,18 @@ values-of-spec =
     μ-loop
     weights-of-requires
     loop-holds
+    mul-weight
+    array-read-weight
+    add-k
+    loop-less
+    loop-again
     mul-t
     element-copy-out-t
     cold-share-requires
     mul-with-month
-    array-read-with-month
-    mul-with-month-2
     with-month-requires
-    add-k
-    loop-less
-    loop-again
+    add-k-2
+    loop-less-2
+    loop-again-2
     rounded-requires
     returns)
