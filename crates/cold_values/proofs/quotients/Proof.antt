@@ -68,10 +68,10 @@ array-read-x-2 : tie.Need-array-read-x-2 Inv-loop μ-loop
 array-read-x-2 c = omega arith
 
 mul-x-4 : tie.Need-mul-x-4 Inv-loop μ-loop
-mul-x-4 c = omega (arith, c .before .before .pre .0 .each 0 (omega arith))
+mul-x-4 c = omega (arith, c .before .before .pre .0 .each 0 (omega arith), c .before .before .pre .0 .each 1 (omega arith))
 
 add-x-2 : tie.Need-add-x-2 Inv-loop μ-loop
-add-x-2 c = omega (arith, c .before .before .pre .0 .each 0 (omega arith), c .before .before .pre .2)
+add-x-2 c = omega (arith, c .before .before .pre .0 .each 0 (omega arith), c .before .before .pre .0 .each 1 (omega arith), c .before .before .pre .2)
 
 mul-x-5 : tie.Need-mul-x-5 Inv-loop μ-loop
 mul-x-5 c = omega (arith, c .before .before .pre .2)
