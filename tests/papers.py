@@ -91,6 +91,11 @@ def figures():
     co = ref.hot_factor(2, ref.CO, 0, 20)
     wanted = [ref.cold_share(120, 100)] + [run.x[ref.x_name(cls, q)] for cls in (2, 3) for q in (ref.CO, ref.NOX, ref.VOC, ref.FC)]
     wanted += [icy.x[ref.x_name(cls, ref.CO)] for cls in (2, 3)] + [ref.half_up(Fraction(icy.x[ref.x_name(2, ref.CO)] * 72, 100))]
+    february = 120, [100, -100] + [100] * 10
+    spans = (), (20260101, 20261231), (20000101, 20001231), (20000229, 20000229), (20260515, 20261020)
+    cold = [ref.open_run(february + days)[1].x for days in spans]
+    wanted += [x[ref.x_name(2, ref.CO)] for x in cold]
+    wanted += [cold[1][ref.x_name(3, ref.CO)], ref.half_up(Fraction(cold[1][ref.x_name(2, ref.CO)] * 72, 100))]
     wanted += [ref.hot_factor(2, ref.CO, 0, v) for v in (20, 60, 100)] + [ref.cold_factor(co, run.x[1, ref.CO]), k, digits, balanced]
     wanted += [ref.half_up(Fraction(44011000 * 13825400, 12011000 + 1008 * 1800)), ref.half_up(Fraction(3 * 1000000 * 2, 4000000))]
     table = [row for row in rows(SECTIONS["Figures"]) if len(row) == 2][1:]
