@@ -1,5 +1,5 @@
 -- The table of figures, by computation. Assumes nothing.
-use mathlib.Core.Path.{_≡_, refl}
+use mathlib.Core.Path.{refl}
 use Rattle.units.specs.Lists.{tab, allBelow, sumTo}
 use Rattle.units.specs.Grounds.{outside, firstFit}
 use Rattle.units.specs.Rounding.{halfUp}

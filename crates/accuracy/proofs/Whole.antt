@@ -4,7 +4,6 @@ use mathlib.Core.Bool.{true}
 use mathlib.Core.List.{List}
 use Prim.Native.Nat.{ℕ, _+_, _-_, _<_}
 use native.Mathlib.Omega.{arith}
-use lib.Dec.{lit<}
 use Rattle.units.specs.Grounds.{firstFit}
 use Rattle.units.specs.Fractions.{WithinDistance}
 use Rattle.units.proofs.Tab.{tab-at}

@@ -1,5 +1,5 @@
 -- The laws of the calendar and of the weights. Assumes nothing.
-use mathlib.Core.Path.{_≡_, refl}
+use mathlib.Core.Path.{refl}
 use Rattle.units.specs.Figures.{AllPrinted}
 use Rattle.units.specs.Lists.{sumTo}
 use Rattle.units.specs.Grounds.{firstFit, outside}

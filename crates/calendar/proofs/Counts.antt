@@ -1,16 +1,16 @@
 -- The days of a period in a month in closed form. Assumes nothing.
-use mathlib.Core.Path.{_≡_, refl, sym, ap, _∙_}
+use mathlib.Core.Path.{_≡_, ap, _∙_}
 use mathlib.Core.Bool.{cond, _&&_}
 use mathlib.Core.Logic.{⊎-elim}
-use Prim.Native.Nat.{ℕ, zero, suc, _+_, _*_, _-_, _/_, _≤_, _<_}
+use Prim.Native.Nat.{ℕ, zero, suc, _+_, _*_, _-_, _≤_, _<_}
 use native.Mathlib.Omega.{arith}
-use lib.Dec.{leb, ltb}
+use lib.Dec.{leb}
 use borrow.Author.Tests.{le-leb, lt-leb, lt-ltb, le-ltb}
 use Rattle.units.specs.Lists.{sumTo}
 use Rattle.units.proofs.Sums.{le-or-lt, sum-alike}
 use Rattle.units.proofs.Tests.{and-false}
 use Rattle.calendar.specs.declared.Days.{Days}
-use Rattle.calendar.specs.Calendar.{monthLength, written, yearOf}
+use Rattle.calendar.specs.Calendar.{monthLength, yearOf}
 use Rattle.calendar.specs.Periods.{daysIn, least}
 
 pub least-left : (x y : ℕ) → x ≤ y → least x y ≡ x

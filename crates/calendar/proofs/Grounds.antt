@@ -1,13 +1,12 @@
 -- The period of two numbers, and the first ground that fits a period, test by test. Assumes nothing.
-use mathlib.Core.Path.{_≡_, refl, ap, sym, _∙_}
-use mathlib.Core.Bool.{true, false, not}
-use Prim.Native.Nat.{ℕ, _/_, _≤_, _<_}
+use mathlib.Core.Path.{_≡_, refl}
+use mathlib.Core.Bool.{true, false}
+use Prim.Native.Nat.{ℕ, _≤_, _<_}
 use lib.Dec.{eqb, ltb}
 use borrow.Author.Tests.{eq-eqb, ne-eqb, lt-ltb, le-ltb}
 use Rattle.units.specs.Grounds.{firstFit}
 use Rattle.units.proofs.Tests.{or-true, and-false}
 use Rattle.calendar.specs.declared.Days.{Days}
-use Rattle.calendar.specs.declared.Period.{Period}
 use Rattle.calendar.specs.declared.Period.the-variants as period
 use Rattle.calendar.specs.Calendar.{yearOf, noDay}
 use Rattle.calendar.specs.Periods.{days, periodFrom, periodGrounds, daysNumber}

@@ -1,9 +1,8 @@
 -- The weights of a period: their sum, a full year, a day alone. Assumes nothing.
 use mathlib.Core.Path.{_≡_, refl, sym, ap, _∙_}
-use mathlib.Core.Bool.{Bool, true, false, not, cond, _||_}
+use mathlib.Core.Bool.{Bool, true, false, not, cond}
 use mathlib.Core.Logic.{⊎-elim}
-use Prim.Native.Nat.{ℕ, zero, suc, _+_, _*_, _-_, _/_, _%_, _≤_, _<_}
-use native.Mathlib.Numerals.{add-one}
+use Prim.Native.Nat.{ℕ, zero, suc, _+_, _*_, _-_, _≤_, _<_}
 use native.Mathlib.Omega.{arith}
 use lib.Dec.{eqb, ltb}
 use borrow.Author.Tests.{eqb-true, eq-eqb, ne-eqb, ltb-false, le-ltb, not-false}
@@ -14,7 +13,7 @@ use Rattle.units.proofs.Sums.{le-or-lt, sum-alike, fewer-terms}
 use Rattle.units.proofs.Tests.{or-false-left, or-false-right}
 use Rattle.calendar.specs.declared.Days.{Days}
 use Rattle.calendar.specs.Calendar.{isLeap, monthLength, written, yearOf, monthOf, dayOf, noDay, dayNumber}
-use Rattle.calendar.specs.Periods.{days, dayMissing, orderWrong, periodGrounds, daysNumber, TakenDays, daysIn, daysOf, least}
+use Rattle.calendar.specs.Periods.{periodGrounds, TakenDays, daysIn, daysOf, least}
 use Rattle.calendar.specs.Claim.{fullYear, oneDay}
 use Rattle.calendar.proofs.Months.{length-range, december, year-length, Date, is-date, date-is}
 use Rattle.calendar.proofs.Counts.{least-left, least-right, beforeMonth, lengthIn, days-in}

@@ -1,14 +1,14 @@
 -- Laws of leap years, of the months' lengths and of what makes a day. Assumes nothing.
-use mathlib.Core.Path.{_≡_, refl, sym, ap, _∙_}
-use mathlib.Core.Bool.{Bool, true, false, not, cond, _&&_, _||_}
-use Prim.Native.Nat.{ℕ, zero, suc, _+_, _*_, _-_, _/_, _%_, _≤_, _<_}
+use mathlib.Core.Path.{_≡_, refl, sym, _∙_}
+use mathlib.Core.Bool.{Bool, true, false, cond, _||_}
+use Prim.Native.Nat.{ℕ, zero, suc, _+_, _-_, _/_, _%_, _≤_, _<_}
 use native.Mathlib.Omega.{arith}
 use lib.Dec.{eqb}
 use borrow.Author.Tests.{eq-eqb, ne-eqb}
 use Rattle.units.specs.Lists.{sumTo}
 use Rattle.units.specs.Grounds.{outside}
 use Rattle.units.proofs.Tests.{or-true, or-false-left, or-false-right, inside, inside-low, inside-high}
-use Rattle.calendar.specs.Calendar.{isLeap, monthLength, written, yearOf, monthOf, dayOf, noDay}
+use Rattle.calendar.specs.Calendar.{isLeap, monthLength, yearOf, monthOf, dayOf, noDay}
 
 -- what holds of the twelve months holds below 12
 pub twelve : (P : ℕ → Type 0) → P 0 → P 1 → P 2 → P 3 → P 4 → P 5 → P 6 → P 7 → P 8 → P 9 → P 10 → P 11 → (k : ℕ) → k < 12 → P k

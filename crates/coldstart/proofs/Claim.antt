@@ -1,9 +1,6 @@
 -- The range of B and of X, for every head that opening takes. Assumes nothing.
-use mathlib.Core.Path.{_≡_, sym}
-use Prim.Native.Nat.{_/_, _%_}
+use mathlib.Core.Path.{sym}
 use native.Mathlib.Omega.{arith}
-use Rattle.units.specs.Rounding.{halfUp}
-use Rattle.coldstart.specs.ColdStart.{coldX}
 use Rattle.coldstart.specs.Claim.{shareAt, ShareClaim}
 use Rattle.coldstart.proofs.ColdStart.{month-whole, whole-range, wider, x-most}
 

@@ -15,7 +15,6 @@ use lib.Signed.{nonNeg, ltZ, leZ, leZ-yes, _≤ℤ_}
 use mir.Syntax.{w64}
 use mir.Val.{toZ, ofZ}
 use Rattle.units.specs.Lists.{tab, sumTo, allBelow}
-use Rattle.units.specs.Grounds.{firstFit}
 use Rattle.units.specs.Rounding.{halfUp}
 use Rattle.units.specs.Sizes.{Within}
 use Rattle.units.proofs.Tab.{tab-at, tab-alike}
@@ -26,9 +25,9 @@ use Rattle.units.proofs.Signed.{Step, arg}
 use Rattle.classes.specs.Classes.{fuelOf, hasOwnX, betaReduction, xCount, xPlace}
 use Rattle.classes.proofs.Classes.{fuel-below, fuel-3, own}
 use Rattle.calendar.specs.declared.Period.{Period}
-use Rattle.calendar.specs.Periods.{periodGrounds, monthWeight, periodWeight}
+use Rattle.calendar.specs.Periods.{monthWeight, periodWeight}
 use Rattle.calendar.proofs.Periods.{whole-weight, weight-positive}
-use Rattle.coldstart.specs.ColdStart.{temperatureOk, coldShare, Slope, slope, slopes, pairs, SlopeLimits, coldRatio, orZero, coldExcess, monthProduct, monthAt, weighedAt, coldSum, coldX, coldFactor, Climate, SmallSums, withMonth, coldDenominator, xDenominator, xFrom, xMost, coldValues, xOfSums}
+use Rattle.coldstart.specs.ColdStart.{temperatureOk, coldShare, Slope, slope, slopes, pairs, SlopeLimits, coldRatio, orZero, coldExcess, monthProduct, monthAt, coldSum, coldX, coldFactor, Climate, SmallSums, withMonth, coldDenominator, xDenominator, xFrom, xMost, coldValues, xOfSums}
 
 -- ---- differences of whole numbers
 

@@ -1,5 +1,5 @@
 -- What is taken is a rendering: fields, lines, sheets. Assumes nothing.
-use Prim.Native.Nat.{ℕ, zero, suc, _+_, _-_, _≤_}
+use Prim.Native.Nat.{ℕ, zero, suc, _+_, _≤_}
 use mathlib.Core.Path.{_≡_, refl, sym, ap, _∙_}
 use mathlib.Core.List.{List, [], _∷_, _++_, map}
 use mathlib.Core.Bool.{Bool, true, false, cond}
@@ -12,7 +12,6 @@ use lib.Seq.{getD-drop, length-take-le, ext-getD}
 use borrow.Author.Tests.{eqb-true, eqb-false}
 use Rattle.units.specs.Lists.{tab}
 use Rattle.units.proofs.Tab.{tab-length, tab-at}
-use Rattle.units.proofs.Tests.{and-left, and-right}
 use Rattle.fields.specs.declared.Field.{Field}
 use Rattle.fields.specs.declared.Field.the-variants.{Plus, Minus, Bad}
 use Rattle.fields.specs.Field.{parse}
@@ -25,7 +24,7 @@ use Rattle.inventory.specs.declared.Record.{Record}
 use Rattle.inventory.specs.declared.Run.{Run}
 use Rattle.inventory.specs.Opening.{openNumber, openRun}
 use Rattle.inventory.specs.Adding.{addNumber, addRun}
-use Rattle.lines.specs.Lines.{glue, lines, headWidths, recordWidths, total, shaped, fields, signedOf, numberIn, numbersIn, numbersOf}
+use Rattle.lines.specs.Lines.{glue, lines, headWidths, recordWidths, total, fields, signedOf, numberIn, numbersIn, numbersOf}
 use Rattle.lines.specs.Records.{andThen, countOf, countsOf, periodWith, headWith, orElse, headOf, recordWith, recordOf}
 use Rattle.sheet.specs.Sheet.{Outcome, refusedAt, decided, lineNumber, lineRun, fromRecords, headNumber, headRun, fromHead, sheetOf}
 use Rattle.form.specs.Rendering.{renderSigned, renderLine, temperatureIn, isDated, daysOfLine, headNumbers, renderHead, recordNumbers, renderRecord, renderRecords, renderSheet}

@@ -1,17 +1,17 @@
 -- No text is longer than 1,455 bytes, and the widths of the line REFUSED cut no number and no line. Assumes nothing.
-use Prim.Native.Nat.{ℕ, suc, _+_, _≤_, _<_}
+use Prim.Native.Nat.{ℕ, suc, _+_, _≤_}
 use mathlib.Core.Path.{_≡_, refl, sym, ap, _∙_}
 use mathlib.Core.Bool.{Bool, true, false, cond, _&&_}
 use mathlib.Core.List.{List, [], _∷_}
 use mathlib.Core.Option.{Option, none, some}
 use native.Mathlib.Omega.{arith}
-use lib.Dec.{T, leb, ltb, eqb}
+use lib.Dec.{leb, ltb, eqb}
 use lib.ListN.{length, drop, length-append}
 use borrow.Author.Tests.{ltb-false, leb-true, le-ltb}
 use Rattle.units.specs.declared.Refusal.{Refusal}
 use Rattle.units.specs.Grounds.{Ground, firstFit}
 use Rattle.units.specs.Refusals.{refusalNumber}
-use Rattle.units.proofs.Tests.{T-true, and-left, and-right}
+use Rattle.units.proofs.Tests.{and-left, and-right}
 use Rattle.units.proofs.Refusals.{number-positive}
 use Rattle.text.proofs.Value.{read-back}
 use Rattle.calendar.specs.Periods.{periodGrounds}

@@ -1,7 +1,7 @@
 -- Line 1 in its two forms: 13 numbers, or 15. Assumes nothing.
-use Prim.Native.Nat.{ℕ, zero, suc, _+_, _≤_, _<_}
+use Prim.Native.Nat.{ℕ, suc, _+_, _≤_, _<_}
 use mathlib.Core.Path.{_≡_, refl, sym, ap, _∙_}
-use mathlib.Core.Bool.{Bool, true, false}
+use mathlib.Core.Bool.{true, false}
 use mathlib.Core.List.{List, [], _∷_, _++_, append-nil}
 use mathlib.Core.Option.{Option, none, some}
 use native.Mathlib.Omega.{arith}
@@ -13,12 +13,11 @@ use Rattle.calendar.specs.declared.Period.the-variants as period
 use Rattle.calendar.specs.Periods.{days}
 use Rattle.fields.specs.Field.{parse, countIn}
 use Rattle.inventory.specs.declared.Head.{Head}
-use Rattle.lines.specs.declared.HeadLine.{HeadLine}
 use Rattle.lines.specs.Lines.{lines, firstOf, headWidths, total, fields, numberIn, before, numbersIn, numbersOf}
 use Rattle.lines.specs.Records.{andThen, countOf, periodWith, headWith, orElse, headOf}
-use Rattle.lines.specs.Reading.{fieldsFrom, headOver, headCase}
+use Rattle.lines.specs.Reading.{headOver, headCase}
 use Rattle.lines.proofs.Lines.{lineLength, before-back, too-short, no-lf, whole-line, ends-before, same-numbers, first-of-lines, first-length}
-use Rattle.lines.proofs.Counts.{fields-from, number-plus, count-small}
+use Rattle.lines.proofs.Counts.{number-plus, count-small}
 
 -- ---- the numbers of two parts of a line
 

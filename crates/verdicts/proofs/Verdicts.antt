@@ -1,25 +1,16 @@
 -- The first ground that fits a head, a record and an add, test by test. Assumes nothing.
-use mathlib.Core.Path.{_≡_, refl, ap, sym, _∙_}
-use mathlib.Core.Bool.{Bool, true, false, not, cond, _||_}
-use mathlib.Core.List.{List, [], _∷_, _++_}
-use Prim.Native.Nat.{ℕ, _+_, _*_, _≤_, _<_}
-use native.Mathlib.Omega.{arith}
-use lib.Dec.{eqb, ltb, leb}
-use borrow.Author.Tests.{lt-ltb, le-ltb, eq-eqb, ne-eqb, lt-leb, le-leb, leb-false, eqb-true, eqb-false, not-true, not-false}
-use Rattle.units.specs.declared.Refusal.{Refusal}
-use Rattle.units.specs.declared.Verdict.{Verdict}
-use Rattle.units.specs.declared.Verdict.the-variants.{Taken, Refused}
-use Rattle.units.specs.Grounds.{Ground, ground, firstFit, outside}
+use mathlib.Core.Path.{_≡_}
+use mathlib.Core.Bool.{true, false, _||_}
+use Prim.Native.Nat.{_+_, _*_, _≤_, _<_}
+use lib.Dec.{ltb}
+use borrow.Author.Tests.{lt-ltb, le-ltb, eq-eqb, ne-eqb}
+use Rattle.units.specs.Grounds.{firstFit, outside}
 use Rattle.units.specs.Lists.{allBelow}
-use Rattle.units.specs.Refusals.{refusalNumber, verdictNumber}
-use Rattle.units.proofs.Grounds.{fit-append, numbered, passed}
-use Rattle.units.proofs.Refusals.{number-positive, taken-number, refused-number}
 use Rattle.units.proofs.Tests.{or-true}
 use Rattle.calendar.specs.Periods.{periodGrounds}
 use Rattle.inventory.specs.declared.Head.{Head}
 use Rattle.inventory.specs.declared.Record.{Record}
 use Rattle.inventory.specs.Records.{monthOk, temperaturesWrong, headGrounds, vehicleKm, sharesWrong, speedsWrong, recordGrounds}
-use Rattle.inventory.specs.Adding.{orderedGrounds}
 
 -- ---- a head
 

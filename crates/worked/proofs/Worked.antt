@@ -1,8 +1,7 @@
 -- Worked lists, by computation. Assumes nothing.
 use mathlib.Core.Path.{_≡_, refl, ap, _∙_}
-use mathlib.Core.List.{[], _∷_}
 use mathlib.Core.Bool.{cond}
-use Prim.Native.Nat.{ℕ, zero, suc, _+_, _*_, _/_, _%_, _≤_}
+use Prim.Native.Nat.{ℕ, zero, suc, _+_, _*_, _≤_}
 use native.Mathlib.Omega.{arith}
 use borrow.Author.Tests.{lt-ltb}
 use lib.Dec.{leb, lit<, lit≤}
@@ -31,7 +30,7 @@ use Rattle.accuracy.proofs.OneRecord.{headX, brings, exactIn}
 use Rattle.accuracy.proofs.Closed.{kmSum, closed}
 use Rattle.accuracy.proofs.Distance.{reference-count, reference-km, reference-exact, total-closed}
 use Rattle.accuracy.proofs.Whole.{after, every-list}
-use Rattle.worked.specs.Worked.{ListGives, many, WorkedClaim}
+use Rattle.worked.specs.Worked.{many, WorkedClaim}
 
 many-length : (n : ℕ) → length (many n) ≡ n
 many-length zero = refl

@@ -1,7 +1,5 @@
 -- `calendar::days_in` meets its contract. Assumes nothing.
-use Prim.Native.Nat.{ℕ, _+_, _-_}
-use mathlib.Core.Path.{_≡_, sym, ap, _∙_}
-use native.Mathlib.Omega.{arith}
+use mathlib.Core.Path.{sym, _∙_}
 use Rattle.calendar.proofs.Counts.{days-in}
 use borrow.Author.Needs.{needs}
 use Rattle.calendar.proofs.days_in.Statement.{statement}

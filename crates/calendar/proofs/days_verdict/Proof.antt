@@ -1,5 +1,5 @@
 -- `calendar::days_verdict` meets its contract. Assumes nothing.
-use mathlib.Core.Path.{_≡_, sym, _∙_}
+use mathlib.Core.Path.{sym, _∙_}
 use Rattle.units.specs.Refusals.{verdictNumber, refusalNumber}
 use Rattle.calendar.proofs.Grounds.{no-first, no-last, before-first, other-year, good-days}
 use borrow.Author.Needs.{needs}

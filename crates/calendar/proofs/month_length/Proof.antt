@@ -1,8 +1,6 @@
 -- `calendar::month_length` meets its contract. Assumes nothing.
-use Prim.Native.Nat.{_+_, _-_}
-use mathlib.Core.Path.{_≡_, sym, ap, _∙_}
+use mathlib.Core.Path.{sym, _∙_}
 use mathlib.Core.Bool.{true, false}
-use native.Mathlib.Omega.{arith}
 use Rattle.calendar.proofs.Months.{second, other-months}
 use borrow.Author.Needs.{needs}
 use Rattle.calendar.proofs.month_length.Statement.{statement}

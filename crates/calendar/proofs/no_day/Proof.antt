@@ -1,7 +1,6 @@
 -- `calendar::no_day` meets its contract. Assumes nothing.
-use mathlib.Core.Path.{_≡_, sym, ap, _∙_}
-use mathlib.Core.Bool.{Bool}
-use Prim.Native.Nat.{ℕ, _%_}
+use mathlib.Core.Path.{sym, ap, _∙_}
+use Prim.Native.Nat.{ℕ}
 use Rattle.units.specs.Grounds.{outside}
 use Rattle.units.proofs.Tests.{inside-low, inside-high}
 use Rattle.calendar.specs.Calendar.{dayOf}

@@ -1,5 +1,5 @@
 -- `calendar::period_verdict` meets its contract. Assumes nothing.
-use mathlib.Core.Path.{_≡_, sym, ap, _∙_}
+use mathlib.Core.Path.{sym, ap, _∙_}
 use Rattle.units.specs.Grounds.{firstFit}
 use Rattle.units.specs.Refusals.{verdictNumber}
 use Rattle.calendar.specs.declared.Period.{Period}

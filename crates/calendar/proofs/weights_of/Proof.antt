@@ -1,7 +1,5 @@
 -- `calendar::weights_of` meets its contract. Assumes nothing.
-use mathlib.Core.Path.{_≡_, refl, sym, ap, _∙_}
-use mathlib.Core.List.{List}
-use Prim.Native.Nat.{ℕ}
+use mathlib.Core.Path.{sym, ap, _∙_}
 use Rattle.units.specs.Lists.{tab}
 use Rattle.units.specs.Grounds.{firstFit}
 use Rattle.calendar.specs.declared.Period.{Period}

@@ -1,6 +1,5 @@
 -- `capi_areas::haldurap_open_areas` meets its contract. Assumes nothing.
 use mathlib.Core.Path.{ap, _∙_}
-use Rattle.inventory.specs.declared.Head.{Head}
 use Rattle.areas.specs.Calls.{openAreasNumber, openAreasNumbers}
 use borrow.Author.Needs.{needs}
 use Rattle.capi_areas.proofs.haldurap_open_areas.Statement.{statement}

@@ -1,9 +1,9 @@
 -- `lines::head_line` meets its contract. Assumes nothing.
-use Prim.Native.Nat.{ℕ, _+_, _≤_, _<_}
-use mathlib.Core.Path.{_≡_, refl, sym, ap, _∙_}
+use Prim.Native.Nat.{_≤_, _<_}
+use mathlib.Core.Path.{refl, sym, ap, _∙_}
 use mathlib.Core.Bool.{true, false}
 use native.Mathlib.Omega.{arith}
-use lib.ListN.{length, getD, take, drop}
+use lib.ListN.{length, take, drop}
 use Rattle.calendar.specs.declared.Period.the-variants as period
 use Rattle.fields.specs.Field.{countIn}
 use Rattle.lines.specs.Lines.{headWidths, total}

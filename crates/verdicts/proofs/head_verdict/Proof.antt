@@ -1,5 +1,5 @@
 -- `verdicts::head_verdict` meets its contract. Assumes nothing.
-use mathlib.Core.Path.{_≡_, refl, ap, sym, _∙_}
+use mathlib.Core.Path.{sym, _∙_}
 use borrow.Author.Tests.{not-true, not-false}
 use Rattle.units.specs.Refusals.{verdictNumber, refusalNumber}
 use Rattle.verdicts.proofs.Verdicts.{bad-trip, bad-temperature, by-period}
