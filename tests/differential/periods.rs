@@ -80,7 +80,7 @@ fn counted(calendar: &[u64], [first, last]: [u64; 2]) -> [u64; 12] {
     months
 }
 
-/// A dated head: its run, some records one by one, as a list, in an area and in a sheet, and the distance from the exact sums.
+/// A dated head: its run, some records one by one and as a list, and the distance from the exact sums.
 fn at_random(held: &mut Held, r: &mut Random, calendar: &[u64]) {
     let head = random::dated_head(r);
     held.periods.heads += 1;

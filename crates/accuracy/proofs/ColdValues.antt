@@ -26,7 +26,7 @@ use Rattle.accuracy.specs.Reference.{coldSumOf, weightOf, exactX, hasRoo
 use Rattle.accuracy.specs.Claim.{runAfter}
 use Rattle.accuracy.specs.ColdValues.{openedX, NotCoOfClass3, SameFifteen, WithoutClass3, withX, sumOfMonths, sumOfDays, EachX, ColdValuesClaim}
 use Rattle.accuracy.proofs.Sums.{sumOf}
-use Rattle.accuracy.proofs.OneRecord.{x-rounded}
+use Rattle.accuracy.proofs.OneRecord.{x-rounded, weight-of-taken}
 use Rattle.accuracy.proofs.Closed.{HeadLimits, slotSum, gramsOf, restOf, closed, run-closed}
 
 rounded : (head : Head) (class quantity : ℕ) → quantity < 5
@@ -134,6 +134,7 @@ cold-values =
     record {
       undated = undated;
       dated = dated;
+      positive = λ head taken class quantity. omega (arith, weight-of-taken head taken);
       rounded = rounded;
       last-x-alone = same-part;
       without-class-3 =

@@ -27,7 +27,7 @@ use Rattle.inventory.specs.Limits.{RecordLimits, XLimits}
 use Rattle.inventory.specs.Adding.{hotPart, coldRate, coldPart, partOf, partAt, kmOf}
 use Rattle.inventory.specs.Printed.{place}
 use Rattle.inventory.specs.Opening.{openNumber}
-use Rattle.inventory.proofs.Records.{climate, record-limits}
+use Rattle.inventory.proofs.Records.{period-taken, record-limits}
 use Rattle.inventory.proofs.Adding.{part-most, km-of-most}
 use Rattle.accuracy.specs.Reference.{acceptable, accepts, weightOf, exactX, exactHot, exactCold, exactOf}
 use Rattle.accuracy.proofs.Sums.{Apart}
@@ -82,7 +82,7 @@ perKm head = 1500000000 * xDenominator (weightOf head)
 
 -- that denominator is positive for a head that opening takes
 pub weight-of-taken : (head : Head) → openNumber head ≡ 0 → 0 < weightOf head
-weight-of-taken head taken = weight-positive (head .period) (climate head taken .dated)
+weight-of-taken head taken = weight-positive (head .period) (period-taken head taken)
 
 -- K times the rounded cold factor, and K × E × unrounded X over d; b says whether the class has a cold part
 cold-near : (b : Bool) (k e s d : ℕ) → 0 < d → e ≤ 2000000000

@@ -17,7 +17,7 @@ use Rattle.inventory.specs.declared.Run.{Run}
 use Rattle.inventory.specs.Order.{inOrder}
 use Rattle.inventory.specs.Opening.{emptyRun, freshRun, openNumber, openRun}
 use Rattle.inventory.specs.Printed.{answered, totalGrounds, totalOf, printedTotal}
-use Rattle.inventory.proofs.Records.{climate}
+use Rattle.inventory.proofs.Records.{climate, period-taken}
 use Rattle.balance.proofs.Distance.{balance-near}
 use Rattle.listing.specs.Report.{reportOf, reportBuffer}
 use Rattle.accuracy.specs.Reference.{hasRoom, accepts, accepted, referenceOf}
@@ -43,11 +43,11 @@ total-given run order fuel quantity f q =
 module _ (head : Head) (taken : openNumber head ≡ 0) where
   limits : HeadLimits (head .trip) (headX head)
   limits =
-      let c : Climate (head .period) (head .trip) (head .temps) = climate head taken in
+      let c : Climate (head .trip) (head .temps) = climate head taken in
       record {
         trip-low = c .trip-low;
         trip-high = c .trip-high;
-        x-most = λ i b. rw (tab-at 0 (coldX (head .period) (head .trip) (head .temps)) xCount i b) (x-most (head .period) (head .trip) (head .temps) c i b);
+        x-most = λ i b. rw (tab-at 0 (coldX (head .period) (head .trip) (head .temps)) xCount i b) (x-most (head .period) (head .trip) (head .temps) c (period-taken head taken) i b);
       }
 
   opened : openRun head ≡ emptyRun (head .trip) (headX head)

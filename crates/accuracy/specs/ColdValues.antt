@@ -17,7 +17,7 @@ use Rattle.inventory.specs.declared.Head.{Head}
 use Rattle.inventory.specs.declared.Record.{Record}
 use Rattle.inventory.specs.declared.Run.{Run}
 use Rattle.inventory.specs.Limits.{XLimits}
-use Rattle.inventory.specs.Opening.{emptyRun, freshRun}
+use Rattle.inventory.specs.Opening.{emptyRun, freshRun, openNumber}
 use Rattle.inventory.specs.Adding.{xOf, partAt}
 use Rattle.accuracy.specs.Reference.{exactX}
 use Rattle.accuracy.specs.Claim.{runAfter}
@@ -67,6 +67,8 @@ pub record ColdValuesClaim : Type 0 where
   pub undated : (head : Head) → head .period ≡ period.Year → EachX head (sumOfMonths head) 12
   -- with dates the sum of days × B × Q is over 1,000 × days of the period
   pub dated : (head : Head) (d : Days) → head .period ≡ period.Days d → EachX head (sumOfDays head d) (daysOf d)
+  -- the unrounded X of a head that opening takes is a fraction over a positive denominator
+  pub positive : (head : Head) → openNumber head ≡ 0 → (class quantity : ℕ) → 0 < exactX head class quantity .denominator
   -- each X is the unrounded one, half up, rounded once
   pub rounded : (head : Head) (class quantity : ℕ) → quantity < 5
       → openedX head class quantity ≡ halfUp (exactX head class quantity .numerator) (exactX head class quantity .denominator)

@@ -28,7 +28,7 @@ exampleHead = record { trip = 120; temps = replicate 12 (pos 100); period = peri
 abbrev pub coldHead : Head
 coldHead = record { trip = 10; temps = replicate 12 (negℤ (pos 297)); period = period.Year }
 
--- the same with T -100 in February, over a period
+-- L 120, T -100 in February and 100 in the other months, over a period
 abbrev pub seasonHead : Period → Head
 seasonHead p = record { trip = 120; temps = pos 100 ∷ negℤ (pos 100) ∷ replicate 10 (pos 100); period = p }
 

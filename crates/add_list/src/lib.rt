@@ -110,7 +110,7 @@ fn no_list(x: Refusal) -> ListAdded
     }
 }
 
-// Opens a run and adds the lent records, nine numbers each: 10 where they are not whole records, then 1, 2.
+// Opens a run and adds the lent records, nine numbers each: 10 where they are not whole records, then 1, 2, 19, 20.
 pub fn add_list(head: Head, numbers: &[u64]) -> ListAdded
     ensures number { λ r. ⌜ verdictNumber (r .verdict) ≡ listNumber head (now (numbers .entry)) ⌝ }
     ensures run { λ r. ⌜ r .run ≡ listRun head (now (numbers .entry)) ⌝ }

@@ -6,7 +6,7 @@ use inventory::Head;
 use units::Refusal;
 use units::Verdict;
 
-// Opens areas: 16 where there are not 2,257 numbers, which then stay as they came; then 1, 2, which leave areas of zeros.
+// Opens areas: 16 where there are not 2,257 numbers, which then stay as they came; then 1, 2, 19, 20, which leave areas of zeros.
 pub fn open_areas(numbers: &mut [u64], head: Head) -> Verdict
     ensures number { λ v. ⌜ verdictNumber v ≡ openAreasNumber (now (numbers .entry)) head ⌝ }
     ensures numbers { λ v. ⌜ now (numbers .exit) ≡ openAreasNumbers (now (numbers .entry)) head ⌝ }

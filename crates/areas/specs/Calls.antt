@@ -26,7 +26,7 @@ numbersInOrder numbers = sizeOk numbers && areasInOrder (areasOf numbers)
 abbrev pub callGrounds : List ℕ → ℕ → List Ground → List Ground
 callGrounds numbers area own = ground 16 (not (numbersInOrder numbers)) ∷ ground 17 (ltb 15 area) ∷ own
 
--- opening: 16 for another length, then 1, 2
+-- opening: 16 for another length, then 1, 2, 19, 20
 unfoldable pub openAreasNumber : List ℕ → Head → ℕ
 openAreasNumber numbers head = firstFit (ground 16 (not (sizeOk numbers)) ∷ headGrounds head)
 

@@ -20,15 +20,15 @@ use Rattle.calendar.proofs.Counts.{least-left, least-right, beforeMonth
 
 -- ---- what a taken period has
 
-pub record TakenPeriod (d : Days) : Type 0 where
+pub record DaysFacts (d : Days) : Type 0 where
   pub first : Date (d .first)
   pub last : Date (d .last)
   pub in-turn : d .first ≤ d .last
   pub same-year : yearOf (d .first) ≡ yearOf (d .last)
 
-pub taken-period : (d : Days) → TakenDays d → TakenPeriod d
+pub days-facts : (d : Days) → TakenDays d → DaysFacts d
 unfolding periodGrounds
-taken-period d z =
+days-facts d z =
     let p = passed (periodGrounds (Rattle.calendar.specs.declared.Period.the-variants.Days d)) tt z in
     let before : Bool = ltb (d .last) (d .first) in
     let other : Bool = not (eqb (yearOf (d .first)) (yearOf (d .last))) in
@@ -39,9 +39,9 @@ taken-period d z =
       same-year = eqb-true _ _ (not-false (eqb (yearOf (d .first)) (yearOf (d .last))) (or-false-right before other (p .1 .0)));
     }
 
-pub period-taken : (d : Days) → TakenPeriod d → TakenDays d
+pub facts-taken : (d : Days) → DaysFacts d → TakenDays d
 unfolding periodGrounds firstFit
-period-taken d p =
+facts-taken d p =
     rw (
       date-is (d .first) (p .first),
       date-is (d .last) (p .last),
@@ -130,7 +130,7 @@ module _ (len : ℕ → ℕ) (range : (k : ℕ) → k < 12 → (28 ≤ len k) ×
 
 -- ---- a taken period
 
-module _ (d : Days) (p : TakenPeriod d) where
+module _ (d : Days) (p : DaysFacts d) where
   date-first : written (yearOf (d .first)) (monthOf (d .first) - 1 + 1) (dayOf (d .first)) ≡ d .first
   date-first = omega (arith, p .first .month-low)
 
@@ -198,11 +198,11 @@ number-most date p =
 
 module _ (d : Days) (taken : TakenDays d) where
   pub ends : dayNumber (d .first) ≤ dayNumber (d .last)
-  ends = in-order d (taken-period d taken)
+  ends = in-order d (days-facts d taken)
 
   pub weights-sum : sumTo (daysIn d) 12 ≡ daysOf d
   unfolding daysOf
-  weights-sum = omega (arith, sum-of-days d (taken-period d taken), ends)
+  weights-sum = omega (arith, sum-of-days d (days-facts d taken), ends)
 
   pub least-days : 1 ≤ daysOf d
   unfolding daysOf
@@ -210,7 +210,7 @@ module _ (d : Days) (taken : TakenDays d) where
 
   pub most-days : daysOf d ≤ 366
   unfolding daysOf
-  most-days = let p = taken-period d taken in omega (arith, number-most (d .last) (p .last), number-low (d .first) (p .first), ends)
+  most-days = let p = days-facts d taken in omega (arith, number-most (d .last) (p .last), number-low (d .first) (p .first), ends)
 
 -- ---- a full year
 
@@ -225,7 +225,7 @@ module _ (year : ℕ) (low : 1980 ≤ year) (high : year ≤ 2100) where
       let last-day : dayOf (written year 12 31) ≡ 31 = omega arith in
       let first-month : monthOf (written year 1 1) ≡ 1 = omega arith in
       let first-day : dayOf (written year 1 1) ≡ 1 = omega arith in
-      period-taken (fullYear year)
+      facts-taken (fullYear year)
       (record {
         first =
             record {
@@ -262,7 +262,7 @@ module _ (year : ℕ) (low : 1980 ≤ year) (high : year ≤ 2100) where
 
 module _ (date : ℕ) (day : noDay date ≡ false) where
   pub day-taken : TakenDays (oneDay date)
-  day-taken = period-taken (oneDay date) (record { first = is-date date day; last = is-date date day; in-turn = omega arith; same-year = refl })
+  day-taken = facts-taken (oneDay date) (record { first = is-date date day; last = is-date date day; in-turn = omega arith; same-year = refl })
 
   day-range : (k : ℕ) → k < 12 → lengthIn (oneDay date) k ≤ 31
   day-range k h = length-range (yearOf date) k h .1

@@ -8,8 +8,9 @@ use lib.Dec.{eqb}
 use Rattle.units.specs.Figures.{Figure, figure, AllPrinted}
 use Rattle.units.specs.Lists.{sumTo}
 use Rattle.calendar.specs.declared.Days.{Days}
+use Rattle.calendar.specs.declared.Period.the-variants as period
 use Rattle.calendar.specs.Calendar.{isLeap, monthLength, written, monthOf, noDay, dayNumber}
-use Rattle.calendar.specs.Periods.{days, daysNumber, TakenDays, daysIn, daysOf}
+use Rattle.calendar.specs.Periods.{days, periodFrom, daysNumber, TakenDays, daysIn, daysOf}
 
 -- the first and the last day of a year
 abbrev pub fullYear : ℕ → Days
@@ -53,6 +54,9 @@ figures =
     ∷ []
 
 pub record CalendarClaim : Type 0 where
+  -- two numbers beside a head: 0 and 0 are no dates, anything else is dated
+  pub no-dates : periodFrom 0 0 ≡ period.Year
+  pub dates : (first last : ℕ) → (first ≡ 0 → last ≡ 0 → ⊥) → periodFrom first last ≡ period.Days (days first last)
   -- the days of a taken period in the twelve months are its days: of its two ends the first is not the later, so nothing is cut
   pub weights : (d : Days) → TakenDays d → sumTo (daysIn d) 12 ≡ daysOf d
   pub ends : (d : Days) → TakenDays d → dayNumber (d .first) ≤ dayNumber (d .last)

@@ -33,14 +33,18 @@ orderWrong (period.Days d) = ltb (d .last) (d .first) || not (eqb (yearOf (d .fi
 unfoldable pub periodGrounds : Period → List Ground
 periodGrounds p = ground 19 (dayMissing p) ∷ ground 20 (orderWrong p) ∷ []
 
+-- no ground fits the period
+abbrev pub TakenPeriod : Period → Type 0
+TakenPeriod p = firstFit (periodGrounds p) ≡ 0
+
 -- the number of a first and a last day: 0 where they are taken
 abbrev pub daysNumber : Days → ℕ
 daysNumber d = firstFit (periodGrounds (period.Days d))
 
 abbrev pub TakenDays : Days → Type 0
-TakenDays d = daysNumber d ≡ 0
+TakenDays d = TakenPeriod (period.Days d)
 
--- a day as it is written lies in the period: both its ends do
+-- a day as it is written lies in the period, and so do its first and its last day
 abbrev pub inPeriod : Days → ℕ → Bool
 inPeriod d date = leb (d .first) date && leb date (d .last)
 

@@ -5,7 +5,7 @@ ghost use Rattle.units.specs.Lists.{tab};
 ghost use Rattle.units.specs.Grounds.{firstFit};
 ghost use Rattle.units.specs.Refusals.{verdictNumber};
 ghost use Rattle.calendar.specs.Calendar.{isLeap, monthLength, noDay};
-ghost use Rattle.calendar.specs.Periods.{periodFrom, periodGrounds, daysNumber, TakenDays, daysIn, daysOf, monthWeight, periodWeight, least};
+ghost use Rattle.calendar.specs.Periods.{periodFrom, periodGrounds, TakenPeriod, daysNumber, TakenDays, daysIn, daysOf, monthWeight, periodWeight, least};
 ghost use Rattle.calendar.specs.Claim.{CalendarClaim};
 use units::Refusal;
 use units::Verdict;
@@ -114,7 +114,7 @@ pub fn period_verdict(period: Period) -> Verdict
 }
 
 // x less y, or 0 if that is negative.
-fn less(x: u64, y: u64) -> u64
+fn saturating_sub(x: u64, y: u64) -> u64
     ensures { λ r. ⌜ r ≡ x - y ⌝ }
 {
     if x < y {
@@ -143,8 +143,8 @@ fn days_in(d: Days, k: usize) -> u64
     let length = month_length(year, month);
     // What is written before the first day of the month.
     let before = year * 10000 + month * 100;
-    let reached = least_of(length, less(d.last, before));
-    less(reached, less(d.first, before + 1))
+    let reached = least_of(length, saturating_sub(d.last, before));
+    saturating_sub(reached, saturating_sub(d.first, before + 1))
 }
 
 // What each month weighs in a taken period: its days in it.
@@ -165,7 +165,7 @@ fn day_weights(d: Days) -> Weights
 
 // What each month weighs in a period that opening takes: a twelfth of the year, or its days.
 pub fn weights_of(period: Period) -> Weights
-    requires { ⌜ firstFit (periodGrounds period) ≡ 0 ⌝ }
+    requires { ⌜ TakenPeriod period ⌝ }
     ensures months { λ r. ⌜ r .months ≡ tab (monthWeight period) 12 ⌝ }
     ensures whole { λ r. ⌜ r .whole ≡ periodWeight period ⌝ }
 {

@@ -4,6 +4,7 @@ ghost use mathlib.Core.Bool.{true};
 ghost use Prim.Native.Nat.{_≤_, _<_};
 ghost use Rattle.units.specs.Lists.{tab};
 ghost use Rattle.classes.specs.Classes.{xCount};
+ghost use Rattle.calendar.specs.Periods.{TakenPeriod};
 ghost use Rattle.coldstart.specs.ColdStart.{Climate, coldValues, SmallSums, pairs, slopes, temperatureOk, withMonth, xOfSums};
 use calendar::Period;
 
@@ -53,7 +54,7 @@ fn quotients(sums: [u64; 15], weight: u64) -> [u64; 16]
     x
 }
 
-// The same, where no dates are the usual case: a divisor that the compiler knows needs no division.
+// The same: without dates, the usual case, the weight is 12, and a divisor that the compiler knows needs no division.
 fn rounded(sums: [u64; 15], weight: u64) -> [u64; 16]
     requires { ⌜ SmallSums sums × (0 < weight) × (weight ≤ 366) ⌝ }
     ensures { λ r. ⌜ r ≡ tab (xOfSums weight sums) xCount ⌝ }
@@ -66,7 +67,7 @@ fn rounded(sums: [u64; 15], weight: u64) -> [u64; 16]
 
 // The 16 values X from the table: months outside, so that the share is computed once for each.
 fn values_of(table: &[[u64; 2]; 15], l: u64, temps: &[i64; 12], period: Period) -> [u64; 16]
-    requires { ⌜ (now table ≡ pairs slopes) × Climate period l (now temps) ⌝ }
+    requires { ⌜ (now table ≡ pairs slopes) × Climate l (now temps) × TakenPeriod period ⌝ }
     ensures { λ r. ⌜ r ≡ coldValues period l (now (temps .entry)) ⌝ }
 {
     let weights = calendar::weights_of(period);
@@ -89,7 +90,7 @@ fn values_of(table: &[[u64; 2]; 15], l: u64, temps: &[i64; 12], period: Period) 
 
 // The 16 values X of a head: for each fuel CO, NOX, VOC, PM, FC, then CO of class 3.
 pub fn cold_values(l: u64, temps: &[i64; 12], period: Period) -> [u64; 16]
-    requires { ⌜ Climate period l (now temps) ⌝ }
+    requires { ⌜ Climate l (now temps) × TakenPeriod period ⌝ }
     ensures { λ r. ⌜ r ≡ coldValues period l (now (temps .entry)) ⌝ }
 {
     values_of(&SLOPES, l, temps, period)

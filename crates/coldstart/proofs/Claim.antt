@@ -7,7 +7,7 @@ use Rattle.coldstart.proofs.ColdStart.{month-whole, whole-range, wider,
 pub share-claim : ShareClaim
 share-claim =
     record {
-      share-range = λ period l ts c k h. whole-range _ (shareAt l ts k) (wider (month-whole period l ts c k h) (omega arith));
-      share-kept = λ period l ts c k h. sym (month-whole period l ts c k h .same);
-      x-most = λ period l ts c i h. omega (arith, x-most period l ts c i h);
+      share-range = λ l ts c k h. whole-range _ (shareAt l ts k) (wider (month-whole l ts c k h) (omega arith));
+      share-kept = λ l ts c k h. sym (month-whole l ts c k h .same);
+      x-most = λ period l ts c z i h. omega (arith, x-most period l ts c z i h);
     }

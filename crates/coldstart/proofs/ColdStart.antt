@@ -25,7 +25,7 @@ use Rattle.units.proofs.Signed.{Step, arg}
 use Rattle.classes.specs.Classes.{fuelOf, hasOwnX, betaReduction, xCount, xPlace}
 use Rattle.classes.proofs.Classes.{fuel-below, fuel-3, own}
 use Rattle.calendar.specs.declared.Period.{Period}
-use Rattle.calendar.specs.Periods.{monthWeight, periodWeight}
+use Rattle.calendar.specs.Periods.{TakenPeriod, monthWeight, periodWeight}
 use Rattle.calendar.proofs.Periods.{whole-weight, weight-positive}
 use Rattle.coldstart.specs.ColdStart.{temperatureOk, coldShare, Slope, slope, slopes, pairs, SlopeLimits, coldRatio, orZero, coldExcess, monthProduct, monthAt, coldSum, coldX, coldFactor, Climate, SmallSums, withMonth, coldDenominator, xDenominator, xFrom, xMost, coldValues, xOfSums}
 
@@ -135,8 +135,8 @@ whole-range m z w = subst (λ (y : ℤ). (pos 0 ≤ℤ y) × (y ≤ℤ pos m)) (
 pub wider : {m n : ℕ} {z : ℤ} → Whole m z → m ≤ n → Whole n z
 wider w h = record { same = w .same; most = omega (arith, w .most) }
 
-pub month-whole : (period : Period) (l : ℕ) (ts : List ℤ) → Climate period l ts → (k : ℕ) → k < 12 → Whole 90265000 (coldShare l (getD ts k (pos 0)))
-month-whole period l ts c k h = share-whole l (c .trip-low) (c .trip-high) (getD ts k (pos 0)) (c .temperatures k h)
+pub month-whole : (l : ℕ) (ts : List ℤ) → Climate l ts → (k : ℕ) → k < 12 → Whole 90265000 (coldShare l (getD ts k (pos 0)))
+month-whole l ts c k h = share-whole l (c .trip-low) (c .trip-high) (getD ts k (pos 0)) (c .temperatures k h)
 
 -- ---- Q
 
@@ -206,7 +206,7 @@ module _ (i : ℕ) (h : i < 15) where
 unfoldable pub sumsTo : (ℕ → ℕ) → ℕ → List ℤ → ℕ → ℕ → ℕ
 sumsTo w l ts k i = sumTo (λ m. w m * monthAt l (entry i) ts m) k
 
-module _ (period : Period) (l : ℕ) (ts : List ℤ) (c : Climate period l ts) (w : ℕ → ℕ) where
+module _ (l : ℕ) (ts : List ℤ) (c : Climate l ts) (w : ℕ → ℕ) where
   -- at most 4,874,310,000,000 for each unit of weight
   sums-most : (k i : ℕ) → k ≤ 12 → i < 15 → sumsTo w l ts k i ≤ sumTo w k * 4874310000000
   unfolding sumsTo
@@ -253,11 +253,11 @@ module _ (period : Period) (l : ℕ) (ts : List ℤ) where
       ∙ made-x
 
 -- the sum of a fuel and a quantity is at most 4,874,310,000,000 for each unit of the period's weight
-pub sum-most : (period : Period) (l : ℕ) (ts : List ℤ) → Climate period l ts → (f q : ℕ) → f < 3 → q < 5
+pub sum-most : (period : Period) (l : ℕ) (ts : List ℤ) → Climate l ts → TakenPeriod period → (f q : ℕ) → f < 3 → q < 5
     → coldSum period l ts f q ≤ periodWeight period * 4874310000000
 unfolding coldSum sumsTo entry
-sum-most period l ts c f q hf hq =
-    rw (sym (whole-weight period (c .dated))) (sums-most period l ts c (monthWeight period) 12 (f * 5 + q) (omega arith) (omega arith))
+sum-most period l ts c z f q hf hq =
+    rw (sym (whole-weight period z)) (sums-most l ts c (monthWeight period) 12 (f * 5 + q) (omega arith) (omega arith))
 
 -- X of a fuel and a quantity, and X of CO of class 3
 pub x-fuels : (period : Period) (l : ℕ) (ts : List ℤ) (i : ℕ) → i < 15
@@ -270,23 +270,23 @@ unfolding coldX xFrom betaReduction hasOwnX
 x-class-3 period l ts = refl
 
 -- each X is at most 4,900,000,000
-pub x-most : (period : Period) (l : ℕ) (ts : List ℤ) → Climate period l ts → (i : ℕ) → i < xCount → coldX period l ts i ≤ xMost
-x-most period l ts c i h = go (ltb i 15) refl
+pub x-most : (period : Period) (l : ℕ) (ts : List ℤ) → Climate l ts → TakenPeriod period → (i : ℕ) → i < xCount → coldX period l ts i ≤ xMost
+x-most period l ts c z i h = go (ltb i 15) refl
   where
     positive : 0 < periodWeight period
-    positive = weight-positive period (c .dated)
+    positive = weight-positive period z
 
     go : (b : Bool) → ltb i 15 ≡ b → coldX period l ts i ≤ xMost
     go true e =
         let b : i < 15 = ltb-true i 15 e in
         rw (x-fuels period l ts i b)
         (rounds.half-up-most (coldSum period l ts (i / 5) (i % 5)) xMost (coldDenominator (periodWeight period)) (omega (arith, positive))
-        (omega (arith, sum-most period l ts c (i / 5) (i % 5) (omega arith) (omega arith))))
+        (omega (arith, sum-most period l ts c z (i / 5) (i % 5) (omega arith) (omega arith))))
     go false e =
         let last : i ≡ 15 = omega (arith, ltb-false i 15 e) in
         rw (last, x-class-3 period l ts)
         (rounds.half-up-most (coldSum period l ts 0 0 * 72) xMost (xDenominator (periodWeight period)) (omega (arith, positive))
-        (omega (arith, sum-most period l ts c 0 0 (omega arith) (omega arith))))
+        (omega (arith, sum-most period l ts c z 0 0 (omega arith) (omega arith))))
 
 -- 100 hundredths of a sum are rounded as the sum itself
 pub hundredths : (s d : ℕ) → halfUp s d ≡ halfUp (s * 100) (d * 100)

@@ -9,11 +9,10 @@ use lib.Dec.{ltb}
 use lib.ListN.{getD}
 use lib.Signed.{leZ}
 use Rattle.units.specs.Lists.{tab, sumTo}
-use Rattle.units.specs.Grounds.{firstFit}
 use Rattle.units.specs.Rounding.{halfUp}
 use Rattle.classes.specs.Classes.{betaReduction, xCount}
 use Rattle.calendar.specs.declared.Period.{Period}
-use Rattle.calendar.specs.Periods.{periodGrounds, monthWeight, periodWeight}
+use Rattle.calendar.specs.Periods.{monthWeight, periodWeight}
 
 -- l is the mean trip length L in tenths of km, t a monthly mean temperature T in tenths of a degree;
 -- a fuel is 0 gasoline, 1 diesel, 2 LPG, a quantity 0 CO, 1 NOX, 2 VOC, 3 PM, 4 FC
@@ -116,9 +115,8 @@ coldValues period l ts = tab (coldX period l ts) xCount
 unfoldable pub coldFactor : ℕ → ℕ → ℕ
 coldFactor e x = halfUp (e * x) 1000000000
 
--- a trip length, temperatures and a period that opening takes
-pub record Climate (period : Period) (l : ℕ) (ts : List ℤ) : Type 0 where
-  pub dated : firstFit (periodGrounds period) ≡ 0
+-- a trip length and temperatures that opening takes
+pub record Climate (l : ℕ) (ts : List ℤ) : Type 0 where
   pub trip-low : 10 ≤ l
   pub trip-high : l ≤ 200
   pub temperatures : (k : ℕ) → k < 12 → temperatureOk (getD ts k (pos 0)) ≡ true

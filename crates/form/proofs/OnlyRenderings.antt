@@ -25,7 +25,7 @@ use Rattle.inventory.specs.declared.Run.{Run}
 use Rattle.inventory.specs.Opening.{openNumber, openRun}
 use Rattle.inventory.specs.Adding.{addNumber, addRun}
 use Rattle.lines.specs.Lines.{glue, lines, headWidths, recordWidths, total, fields, signedOf, numberIn, numbersIn, numbersOf}
-use Rattle.lines.specs.Records.{andThen, countOf, countsOf, periodWith, headWith, orElse, headOf, recordWith, recordOf}
+use Rattle.lines.specs.Records.{andThen, countOf, countsOf, periodWith, headOver, headWith, orElse, headOf, recordWith, recordOf}
 use Rattle.sheet.specs.Sheet.{Outcome, refusedAt, decided, lineNumber, lineRun, fromRecords, headNumber, headRun, fromHead, sheetOf}
 use Rattle.form.specs.Rendering.{renderSigned, renderLine, temperatureIn, isDated, daysOfLine, headNumbers, renderHead, recordNumbers, renderRecord, renderRecords, renderSheet}
 use Rattle.form.specs.Claim.{TakenInTurn, StatedForm}
@@ -127,21 +127,27 @@ unfolding headWidths
 widths-most true = (omega arith, omega arith)
 widths-most false = (omega arith, omega arith)
 
+-- L and twelve T
+over-back : (p : Period) (zs : List ℤ) (head : Head) → length zs ≡ 13 → headOver p zs ≡ some head
+    → (zs ≡ pos (head .trip) ∷ tab (temperatureIn head) 12) × (p ≡ head .period)
+over-back p [] head h e = absurd (omega arith)
+over-back p (z ∷ ts) head h e =
+    let c = then-back (countOf z) (λ n. some (record { trip = n; temps = ts; period = p })) head e in
+    let q : _≡_ {A = Head} (record { trip = c .0; temps = ts; period = p }) head = cc in
+    let x : z ≡ pos (head .trip) = count-is z (c .0) (c .1) ∙ ap (λ (y : Head). pos (y .trip)) q in
+    let t : ts ≡ tab (temperatureIn head) 12 = tab-back ts (omega arith) ∙ ap (λ (y : Head). tab (temperatureIn y) 12) q in
+    ((λ i. x i ∷ t i), ap (λ (y : Head). y .period) q)
+
 head-with : (dated : Bool) (zs : List ℤ) (head : Head) → length zs ≡ length (headWidths dated) → headWith zs ≡ some head
     → (zs ≡ headNumbers head) × (dated ≡ isDated (head .period))
-head-with dated [] head h e = absurd (omega (arith, widths-most dated .0))
-head-with dated (z ∷ ts) head h e =
-    let p = then-back (countOf z) (λ n. andThen (periodWith (drop 12 ts)) λ q. some (record { trip = n; temps = take 12 ts; period = q })) head e in
-    let r = then-back (periodWith (drop 12 ts)) (λ q. some (record { trip = p .0; temps = take 12 ts; period = q })) head (p .2) in
-    let q : _≡_ {A = Head} (record { trip = p .0; temps = take 12 ts; period = r .0 }) head = cc in
+head-with dated zs head h e =
+    let r = then-back (periodWith (drop 13 zs)) (λ q. headOver q (take 13 zs)) head e in
     let w = widths-most dated in
-    let n : length (take 12 ts) ≡ 12 = length-take-le 12 ts (omega (arith, w .0)) in
-    let m : length (drop 12 ts) + 12 ≡ length ts = rw length-drop (omega (arith, w .0)) in
-    let x : z ≡ pos (head .trip) = count-is z (p .0) (p .1) ∙ ap (λ (y : Head). pos (y .trip)) q in
-    let t : take 12 ts ≡ tab (temperatureIn head) 12 = tab-back (take 12 ts) n ∙ ap (λ (y : Head). tab (temperatureIn y) 12) q in
-    let d : drop 12 ts ≡ daysOfLine (head .period) = period-back (drop 12 ts) (r .0) (omega (arith, w .1)) (r .1) ∙ ap (λ (y : Head). daysOfLine (y .period)) q in
-    let f : ts ≡ tab (temperatureIn head) 12 ++ daysOfLine (head .period) = sym (take-append-drop 12 ts) ∙ (λ i. t i ++ d i) in
-    ((λ i. x i ∷ f i), form-is dated (head .period) (omega (arith, m, ap length d)))
+    let n : length (take 13 zs) ≡ 13 = length-take-le 13 zs (omega (arith, w .0)) in
+    let m : length (drop 13 zs) + 13 ≡ length zs = rw length-drop (omega (arith, w .0)) in
+    let o = over-back (r .0) (take 13 zs) head n (r .2) in
+    let d : drop 13 zs ≡ daysOfLine (head .period) = period-back (drop 13 zs) (r .0) (omega (arith, w .1)) (r .1) ∙ ap daysOfLine (o .1) in
+    (sym (take-append-drop 13 zs) ∙ (λ i. o .0 i ++ d i), form-is dated (head .period) (omega (arith, m, ap length d)))
 
 numbers-only : (dated : Bool) (line : List ℕ) (zs : List ℤ) (head : Head) → numbersOf (headWidths dated) line ≡ some zs → headWith zs ≡ some head → line ≡ renderHead head
 unfolding renderHead

@@ -19,9 +19,9 @@ use Rattle.text.proofs.Write.{length-render}
 use Rattle.classes.specs.Classes.{xCount}
 use Rattle.calendar.specs.declared.Period.{Period}
 use Rattle.calendar.specs.declared.Period.the-variants as period
-use Rattle.calendar.specs.Periods.{periodGrounds, monthWeight}
+use Rattle.calendar.specs.Periods.{TakenPeriod, monthWeight}
 use Rattle.calendar.proofs.Months.{Date}
-use Rattle.calendar.proofs.Laws.{taken-period}
+use Rattle.calendar.proofs.Laws.{days-facts}
 use Rattle.coldstart.specs.ColdStart.{temperatureOk, Slope, slopeOf, monthProduct, weighedAt, coldSum, xFrom, coldX, Climate}
 use Rattle.coldstart.proofs.ColdStart.{temperature-size}
 use Rattle.inventory.specs.declared.Head.{Head}
@@ -30,7 +30,7 @@ use Rattle.inventory.specs.declared.Run.{Run}
 use Rattle.inventory.specs.Records.{monthOk, recordGrounds}
 use Rattle.inventory.specs.Opening.{emptyRun, freshRun, openNumber, openRun}
 use Rattle.inventory.specs.Adding.{addNumber, addRun}
-use Rattle.inventory.proofs.Records.{climate, record-limits}
+use Rattle.inventory.proofs.Records.{climate, period-taken, record-limits}
 use Rattle.accuracy.specs.Claim.{runAfter}
 use Rattle.verdicts.proofs.Verdicts.{by-period}
 use Rattle.recording.proofs.Runs.{open-by, run-opened, ready}
@@ -179,10 +179,10 @@ append-fits (w ∷ ws) vs (z ∷ zs) ys a b = (a .0, append-fits ws vs zs ys (a 
 day-fits : (date : ℕ) → Date date → Fits 9 (pos date)
 day-fits date p = let h : date < 1000000000 = omega (arith, p .year-high) in fit-pos 8 date h h
 
-days-fit : (p : Period) → firstFit (periodGrounds p) ≡ 0 → AllFit (cond (isDated p) (9 ∷ 9 ∷ []) []) (daysOfLine p)
+days-fit : (p : Period) → TakenPeriod p → AllFit (cond (isDated p) (9 ∷ 9 ∷ []) []) (daysOfLine p)
 unfolding AllFit
 days-fit period.Year z = tt
-days-fit (period.Days d) z = let t = taken-period d z in (day-fits (d .first) (t .first), (day-fits (d .last) (t .last), tt))
+days-fit (period.Days d) z = let t = days-facts d z in (day-fits (d .first) (t .first), (day-fits (d .last) (t .last), tt))
 
 -- a line of either form is read as what it says
 form-read : (p : Period) (trip : ℕ) (temps : ℕ → ℤ) (line : List ℕ) → numbersOf (headWidths (isDated p)) line ≡ some (pos trip ∷ (tab temps 12 ++ daysOfLine p))
@@ -238,7 +238,7 @@ module _ (head : Head) (z : openNumber head ≡ 0) where
   unfolding headWidths
   head-fits =
       append-fits (headWidths false) (cond (isDated (head .period)) (9 ∷ 9 ∷ []) []) (pos (head .trip) ∷ tab (temperatureIn head) 12) (daysOfLine (head .period)) thirteen-fit
-      (days-fit (head .period) (climate head z .dated))
+      (days-fit (head .period) (period-taken head z))
 
   head-rendered : (rest : List ℕ) → Rendered (headWidths (isDated (head .period))) (headNumbers head) rest (renderHead head ++ rest)
   unfolding renderHead
@@ -254,10 +254,10 @@ module _ (head : Head) (z : openNumber head ≡ 0) where
   same-number : openNumber twelve ≡ 0
   unfolding twelve
   same-number =
-      let c : Climate (head .period) (head .trip) (head .temps) = climate head z in
+      let c : Climate (head .trip) (head .temps) = climate head z in
       sym
       (open-by twelve 0
-      (sym (c .dated) ∙ by-period twelve (inside 10 200 (head .trip) (c .trip-low) (c .trip-high))
+      (sym (period-taken head z) ∙ by-period twelve (inside 10 200 (head .trip) (c .trip-low) (c .trip-high))
       (all (monthOk twelve) 12 (λ k h. ap temperatureOk (same-month k h) ∙ c .temperatures k h))))
 
   same-sum : (fuel quantity : ℕ) → coldSum (head .period) (head .trip) (tab (temperatureIn head) 12) fuel quantity ≡ coldSum (head .period) (head .trip) (head .temps) fuel quantity

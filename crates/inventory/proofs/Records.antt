@@ -11,7 +11,7 @@ use Rattle.units.specs.Grounds.{ground, firstFit, outside}
 use Rattle.units.proofs.Grounds.{passed, none-fits, fit-append}
 use Rattle.units.proofs.Tests.{or-false-left, or-false-right, inside-low, inside-high, at}
 use Rattle.factors.specs.Factors.{Driven}
-use Rattle.calendar.specs.Periods.{periodGrounds}
+use Rattle.calendar.specs.Periods.{periodGrounds, TakenPeriod}
 use Rattle.coldstart.specs.ColdStart.{Climate}
 use Rattle.inventory.specs.declared.Head.{Head}
 use Rattle.inventory.specs.declared.Record.{Record}
@@ -32,16 +32,19 @@ none-of-three a b c h =
     let l = or-false-left (a || b) c h in
     (or-false-left a b l, or-false-right a b l, or-false-right (a || b) c h)
 
-pub climate : (head : Head) → openNumber head ≡ 0 → Climate (head .period) (head .trip) (head .temps)
+pub climate : (head : Head) → openNumber head ≡ 0 → Climate (head .trip) (head .temps)
 unfolding openNumber headGrounds temperaturesWrong periodGrounds
 climate head z =
     let p = passed (headGrounds head) tt z in
     record {
-      dated = none-fits (periodGrounds (head .period)) (p .1 .1);
       trip-low = inside-low 10 200 (head .trip) (p .0);
       trip-high = inside-high 10 200 (head .trip) (p .0);
       temperatures = λ k h. at (monthOk head) 12 (not-false (allBelow (monthOk head) 12) (p .1 .0)) k h;
     }
+
+pub period-taken : (head : Head) → openNumber head ≡ 0 → TakenPeriod (head .period)
+unfolding openNumber headGrounds periodGrounds
+period-taken head z = none-fits (periodGrounds (head .period)) (passed (headGrounds head) tt z .1 .1)
 
 pub record-limits : (rec : Record) → firstFit (recordGrounds rec) ≡ 0 → RecordLimits rec
 unfolding recordGrounds sharesWrong speedsWrong

@@ -14,8 +14,8 @@ use Rattle.calendar.specs.Periods.{days}
 use Rattle.fields.specs.Field.{parse, countIn}
 use Rattle.inventory.specs.declared.Head.{Head}
 use Rattle.lines.specs.Lines.{lines, firstOf, headWidths, total, fields, numberIn, before, numbersIn, numbersOf}
-use Rattle.lines.specs.Records.{andThen, countOf, periodWith, headWith, orElse, headOf}
-use Rattle.lines.specs.Reading.{headOver, headCase}
+use Rattle.lines.specs.Records.{andThen, countOf, periodWith, headOver, headWith, orElse, headOf}
+use Rattle.lines.specs.Reading.{headCase}
 use Rattle.lines.proofs.Lines.{lineLength, before-back, too-short, no-lf, whole-line, ends-before, same-numbers, first-of-lines, first-length}
 use Rattle.lines.proofs.Counts.{number-plus, count-small}
 
@@ -55,17 +55,7 @@ count-numbers (w ∷ ws) l zs e =
 
 -- L and twelve T, then what says the period
 with-period : (zs ds : List ℤ) → length zs ≡ 13 → headWith (zs ++ ds) ≡ andThen (periodWith ds) (λ p. headOver p zs)
-with-period [] ds h = absurd (omega arith)
-with-period (l ∷ ts) ds h =
-    rw (take-at ts ds 12 (omega arith), drop-at ts ds 12 (omega arith)) (by (countOf l) (periodWith ds))
-  where
-    by : (o : Option ℕ) (q : Option Period)
-        → andThen {B = Head} o (λ n. andThen {B = Head} q (λ p. some (record { trip = n; temps = ts; period = p })))
-        ≡ andThen {B = Head} q (λ p. andThen {B = Head} o (λ n. some (record { trip = n; temps = ts; period = p })))
-    by none none = refl
-    by none (some p) = refl
-    by (some n) none = refl
-    by (some n) (some p) = refl
+with-period zs ds h = rw (take-at zs ds 13 h, drop-at zs ds 13 h)
 
 -- a day that is no number without a minus
 no-day : (f : List ℕ) → 10000000000 ≤ countIn f → (a : Option ℤ) → numberIn f ≡ a → (z : ℤ) → a ≡ some z → countOf z ≡ none

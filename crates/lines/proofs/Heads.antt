@@ -13,8 +13,8 @@ use Rattle.calendar.specs.declared.Period.{Period}
 use Rattle.fields.specs.Field.{parse, countIn}
 use Rattle.lines.specs.declared.Signed.the-variants as signed
 use Rattle.lines.specs.Lines.{headWidths, fields, numberIn, before, numbersIn}
-use Rattle.lines.specs.Records.{andThen}
-use Rattle.lines.specs.Reading.{fieldsFrom, signedCase, tempsCase, headOver}
+use Rattle.lines.specs.Records.{andThen, headOver}
+use Rattle.lines.specs.Reading.{fieldsFrom, signedCase, tempsCase}
 use Rattle.lines.proofs.Counts.{fields-from, number-plus, count-small}
 
 -- what the first j elements of t and then r are

@@ -8,7 +8,6 @@ use lib.Dec.{ltb}
 use lib.IntN.{ℤ, pos}
 use lib.ListN.{take, drop, replicate}
 use Rattle.fields.specs.Field.{countIn}
-use Rattle.calendar.specs.declared.Period.{Period}
 use Rattle.calendar.specs.declared.Period.the-variants as period
 use Rattle.inventory.specs.declared.Head.{Head}
 use Rattle.inventory.specs.declared.Record.{Record}
@@ -17,7 +16,7 @@ use Rattle.lines.specs.declared.Signed.the-variants as signed
 use Rattle.lines.specs.declared.Temps.{Temps}
 use Rattle.lines.specs.declared.HeadLine.{HeadLine}
 use Rattle.lines.specs.declared.RecordLine.{RecordLine}
-use Rattle.lines.specs.Records.{andThen, countOf, recordWith}
+use Rattle.lines.specs.Records.{recordWith}
 
 -- the bytes from a place on cut into fields
 unfoldable pub fieldsFrom : List ℕ → List ℕ → ℕ → List (List ℕ)
@@ -48,11 +47,6 @@ signedCase none = signed.Bad
 abbrev pub tempsCase : Option (List ℤ) → Temps
 tempsCase (some ts) = record { ok = true; temps = ts }
 tempsCase none = record { ok = false; temps = replicate 12 (pos 0) }
-
--- a head over a period: L, which stands without a minus, and the temperatures
-abbrev pub headOver : Period → List ℤ → Option Head
-headOver p [] = none
-headOver p (l ∷ ts) = andThen (countOf l) λ n. some (record { trip = n; temps = ts; period = p })
 
 -- a head, whether it was read, and the bytes of its line
 abbrev pub headCase : ℕ → Option Head → HeadLine

@@ -32,10 +32,14 @@ periodWith [] = some period.Year
 periodWith (first ∷ []) = none
 periodWith (first ∷ last ∷ zs) = andThen (countOf first) λ a. andThen (countOf last) λ b. some (period.Days (days a b))
 
--- L, which stands without a minus, then twelve T, then the period
+-- a head over a period: L, which stands without a minus, then the temperatures
+abbrev pub headOver : Period → List ℤ → Option Head
+headOver p [] = none
+headOver p (l ∷ ts) = andThen (countOf l) λ n. some (record { trip = n; temps = ts; period = p })
+
+-- L and twelve T, then the period
 abbrev pub headWith : List ℤ → Option Head
-headWith [] = none
-headWith (l ∷ zs) = andThen (countOf l) λ n. andThen (periodWith (drop 12 zs)) λ p. some (record { trip = n; temps = take 12 zs; period = p })
+headWith zs = andThen (periodWith (drop 13 zs)) λ p. headOver p (take 13 zs)
 
 abbrev pub orElse : {A : Type 0} → Option A → Option A → Option A
 orElse (some x) y = some x

@@ -20,25 +20,25 @@ mul-before-2 c = search needs
 add-before : tie.Need-add-before
 add-before c = search needs
 
-less-requires : tie.Need-less-requires
-less-requires c κs = search needs
+saturating-sub-requires : tie.Need-saturating-sub-requires
+saturating-sub-requires c κs = search needs
 
 least-of-requires : tie.Need-least-of-requires
 least-of-requires c κs = search needs
 
-add-less : tie.Need-add-less
-add-less c = search needs
+add-saturating-sub : tie.Need-add-saturating-sub
+add-saturating-sub c = search needs
 
-less-requires-2 : tie.Need-less-requires-2
-less-requires-2 c κs = search needs
+saturating-sub-requires-2 : tie.Need-saturating-sub-requires-2
+saturating-sub-requires-2 c κs = search needs
 
-less-requires-3 : tie.Need-less-requires-3
-less-requires-3 c κs = search needs
+saturating-sub-requires-3 : tie.Need-saturating-sub-requires-3
+saturating-sub-requires-3 c κs = search needs
 
 returns : tie.Need-returns
 returns c =
     let a = c .before .before .before .before .before .before .args in
-    c .less3 .ensures ∙ rw (c .before .less2 .ensures, c .before .before .least-of .ensures, c .before .before .before .less .ensures, c .before .before .before .before .month-length .ensures)
+    c .saturating-sub3 .ensures ∙ rw (c .before .saturating-sub2 .ensures, c .before .before .least-of .ensures, c .before .before .before .saturating-sub .ensures, c .before .before .before .before .month-length .ensures)
     (sym (days-in (a .d) (a .k)))
 
 pub days-in-spec : {M : Type 1} → statement M
@@ -50,9 +50,9 @@ days-in-spec =
     mul-before
     mul-before-2
     add-before
-    less-requires
+    saturating-sub-requires
     least-of-requires
-    add-less
-    less-requires-2
-    less-requires-3
+    add-saturating-sub
+    saturating-sub-requires-2
+    saturating-sub-requires-3
     returns)

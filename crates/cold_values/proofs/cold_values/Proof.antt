@@ -7,7 +7,7 @@ use Rattle.cold_values.proofs.cold_values.Tie as tie
 
 values-of-requires : tie.Need-values-of-requires
 unfolding pairs slopes
-values-of-requires c κs = (refl, c .before .pre)
+values-of-requires c κs = (refl, c .before .pre .0, c .before .pre .1)
 
 returns : tie.Need-returns
 returns c = search needs

@@ -34,7 +34,7 @@ abbrev μ-loop : tie.MeasureT-loop
 μ-loop table l temps weights months sums₀ k₀ sums k = 12 - k
 
 weights-of-requires : tie.Need-weights-of-requires Inv-loop μ-loop
-weights-of-requires c κs = c .pre .1 .dated
+weights-of-requires c κs = c .pre .2
 
 loop-holds : tie.Need-loop-holds Inv-loop μ-loop
 unfolding tab sumsTo sumTo
@@ -90,7 +90,7 @@ with-month-requires c κs =
     let l = c .before .before .before .before .loop in
     let e = c .before .before .before .before .before .before .weights-of .ensures .0 in
     let ok = read-ok _ (w .temperatures (l .k) (omega arith)) in
-    (s .pre .0, small-sums _ _ _ w _ (light (s .args .period) _ e) (l .k) _ (omega arith) (l .inv .1), omega (arith, month c), ok)
+    (s .pre .0, small-sums _ _ w _ (light (s .args .period) _ e) (l .k) _ (omega arith) (l .inv .1), omega (arith, month c), ok)
 
 add-k-2 : tie.Need-add-k-2 Inv-loop μ-loop
 add-k-2 c = omega arith
@@ -113,8 +113,8 @@ rounded-requires c κs =
     let s = c .before .before .before .before in
     let l = c .before .loop in
     let e = c .before .before .before .weights-of .ensures in
-    let z = s .pre .1 .dated in (
-      small-sums _ _ _ (s .pre .1) _ (light (s .args .period) _ (e .0)) (l .k) _ (omega arith) (l .inv .1),
+    let z = s .pre .2 in (
+      small-sums _ _ (s .pre .1) _ (light (s .args .period) _ (e .0)) (l .k) _ (omega arith) (l .inv .1),
       rw (e .1) (weight-positive (s .args .period) z),
       rw (e .1) (weight-high (s .args .period) z),
     )

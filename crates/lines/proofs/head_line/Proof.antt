@@ -7,8 +7,8 @@ use lib.ListN.{length, take, drop}
 use Rattle.calendar.specs.declared.Period.the-variants as period
 use Rattle.fields.specs.Field.{countIn}
 use Rattle.lines.specs.Lines.{headWidths, total}
-use Rattle.lines.specs.Records.{headWith}
-use Rattle.lines.specs.Reading.{headOver, headCase}
+use Rattle.lines.specs.Records.{headOver, headWith}
+use Rattle.lines.specs.Reading.{headCase}
 use Rattle.lines.proofs.HeadLines.{line-short, year-line, days-short, days-no-lf, days-line, days-form, first-missing, last-missing, case-none, case-read}
 use borrow.Author.Needs.{needs}
 use Rattle.lines.proofs.head_line.Statement.{statement}

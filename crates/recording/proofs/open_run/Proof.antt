@@ -1,8 +1,8 @@
 -- `recording::open_run` meets its contract. Assumes nothing.
-use mathlib.Core.Path.{_≡_, refl, ap, sym, _∙_}
+use mathlib.Core.Path.{sym, _∙_}
 use Rattle.units.specs.Refusals.{verdictNumber}
 use Rattle.units.proofs.Refusals.{number-positive, taken-number, refused-number}
-use Rattle.inventory.proofs.Records.{climate}
+use Rattle.inventory.proofs.Records.{climate, period-taken}
 use Rattle.accuracy.proofs.Whole.{every-list}
 use Rattle.recording.proofs.Runs.{open-by, run-refused, run-opened, fresh-made}
 use borrow.Author.Needs.{needs}
@@ -29,7 +29,9 @@ enum-told : tie.Need-enum-told
 enum-told c = search needs
 
 cold-values-requires : tie.Need-cold-values-requires
-cold-values-requires c κs = climate _ (taken-number _ _ (c .before .before .enum-told .given .1) (open-by _ _ (c .before .before .before .before .head-verdict .ensures)))
+cold-values-requires c κs =
+    let z = taken-number _ _ (c .before .before .enum-told .given .1) (open-by _ _ (c .before .before .before .before .head-verdict .ensures)) in
+    (climate _ z, period-taken _ z)
 
 returns-2 : tie.Need-returns-2
 unfolding verdictNumber
