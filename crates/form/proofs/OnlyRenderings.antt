@@ -29,7 +29,7 @@ use Rattle.lines.specs.Records.{andThen, countOf, countsOf, periodWith, headOve
 use Rattle.sheet.specs.Sheet.{Outcome, refusedAt, decided, lineNumber, lineRun, fromRecords, headNumber, headRun, fromHead, sheetOf}
 use Rattle.form.specs.Rendering.{renderSigned, renderLine, temperatureIn, isDated, daysOfLine, headNumbers, renderHead, recordNumbers, renderRecord, renderRecords, renderSheet}
 use Rattle.form.specs.Claim.{TakenInTurn, StatedForm}
-use Rattle.lines.proofs.Lines.{before-back, numbers-back, shaped-back}
+use Rattle.lines.proofs.Lines.{before-back, then-back, count-numbers, numbers-back, shaped-back}
 use Rattle.sheet.proofs.Walk.{asRecord, record-made}
 
 -- ---- a field
@@ -72,25 +72,11 @@ line-only ws line zs e =
     let q = shaped-back ws line (p .0) in
     fields-only ws line zs (q .0) (q .1) (p .1)
 
--- as many numbers as fields
-count-numbers : (fs : List (List ℕ)) (zs : List ℤ) → numbersIn fs ≡ some zs → length zs ≡ length fs
-unfolding numbersIn
-count-numbers [] zs e = let q : [] ≡ zs = cc in rw (sym q)
-count-numbers (f ∷ fs) zs e = let p = before-back (numberIn f) (numbersIn fs) zs e in rw (p .4) (ap suc (count-numbers fs (p .1) (p .3)))
-
-count-fields : (ws l : List ℕ) → length (fields ws l) ≡ length ws
-unfolding fields
-count-fields [] l = refl
-count-fields (w ∷ ws) l = ap suc (count-fields ws (drop w l))
-
+-- as many numbers as widths
 line-count : (ws line : List ℕ) (zs : List ℤ) → numbersOf ws line ≡ some zs → length zs ≡ length ws
-line-count ws line zs e = count-numbers (fields ws line) zs (numbers-back ws line zs e .1) ∙ count-fields ws line
+line-count ws line zs e = count-numbers ws line zs (numbers-back ws line zs e .1)
 
 -- ---- the head line
-
-then-back : {A B : Type 0} (o : Option A) (f : A → Option B) (y : B) → andThen o f ≡ some y → (x : A) × (o ≡ some x) × (f x ≡ some y)
-then-back none f y e = let z : _≡_ {A = ℕ} 0 1 = cc in absurd (omega arith)
-then-back (some x) f y e = (x, refl, e)
 
 count-is : (z : ℤ) (n : ℕ) → countOf z ≡ some n → z ≡ pos n
 count-is (pos m) n e = let q : m ≡ n = cc in ap pos q

@@ -1,5 +1,5 @@
 -- Line 1 in its two forms: 13 numbers, or 15. Assumes nothing.
-use Prim.Native.Nat.{ℕ, suc, _+_, _≤_, _<_}
+use Prim.Native.Nat.{ℕ, _+_, _≤_, _<_}
 use mathlib.Core.Path.{_≡_, refl, sym, ap, _∙_}
 use mathlib.Core.Bool.{true, false}
 use mathlib.Core.List.{List, [], _∷_, _++_, append-nil}
@@ -16,7 +16,7 @@ use Rattle.inventory.specs.declared.Head.{Head}
 use Rattle.lines.specs.Lines.{lines, firstOf, headWidths, total, fields, numberIn, before, numbersIn, numbersOf}
 use Rattle.lines.specs.Records.{andThen, countOf, periodWith, headOver, headWith, orElse, headOf}
 use Rattle.lines.specs.Reading.{headCase}
-use Rattle.lines.proofs.Lines.{lineLength, before-back, too-short, no-lf, whole-line, ends-before, same-numbers, first-of-lines, first-length}
+use Rattle.lines.proofs.Lines.{lineLength, then-back, count-numbers, too-short, no-lf, whole-line, ends-before, same-numbers, first-of-lines, first-length}
 use Rattle.lines.proofs.Counts.{number-plus, count-small}
 
 -- ---- the numbers of two parts of a line
@@ -44,14 +44,6 @@ numbers-both (w ∷ ws) vs l =
     ap (before (numberIn (take w l))) (numbers-both ws vs (drop w l))
     ∙ ap (λ (k : List ℕ). before (numberIn (take w l)) (both (numbersIn (fields ws (drop w l))) (numbersIn (fields vs k)))) (drop-drop (total ws) w l)
     ∙ both-more (numberIn (take w l)) (numbersIn (fields ws (drop w l))) (numbersIn (fields vs (drop (w + total ws) l)))
-
--- as many numbers as widths
-count-numbers : (ws l : List ℕ) (zs : List ℤ) → numbersIn (fields ws l) ≡ some zs → length zs ≡ length ws
-unfolding numbersIn fields
-count-numbers [] l zs e = let q : [] ≡ zs = cc in rw (sym q)
-count-numbers (w ∷ ws) l zs e =
-    let p = before-back (numberIn (take w l)) (numbersIn (fields ws (drop w l))) zs e in
-    rw (p .4) (ap suc (count-numbers ws (drop w l) (p .1) (p .3)))
 
 -- L and twelve T, then what says the period
 with-period : (zs ds : List ℤ) → length zs ≡ 13 → headWith (zs ++ ds) ≡ andThen (periodWith ds) (λ p. headOver p zs)
@@ -174,16 +166,12 @@ module _ (s : List ℕ) where
 pub case-none : (n : ℕ) (o : Option Head) → o ≡ none → headCase 0 none ≡ headCase n o
 case-none n o e = rw e
 
-some-numbers : (o : Option (List ℤ)) (make : List ℤ → Option Head) (head : Head) → andThen o make ≡ some head → (zs : List ℤ) × (o ≡ some zs)
-some-numbers none make head e = let y : _≡_ {A = ℕ} 0 1 = cc in absurd (omega arith)
-some-numbers (some zs) make head e = (zs, refl)
-
 -- a head is read: the line has the bytes of its form
 module _ (s ws : List ℕ) (make : List ℤ → Option Head) (size : ℕ) (long : size ≡ total ws + 1) (h : total ws < length s) (lf : getD s (total ws) 0 ≡ 10) where
   case-by : (o : Option Head) → andThen (numbersIn (fields ws s)) make ≡ o → headCase size o ≡ headCase (length (firstOf (lines s))) o
   case-by none e = refl
   case-by (some head) e =
-      let zs = some-numbers (numbersIn (fields ws s)) make head e in
+      let zs = then-back (numbersIn (fields ws s)) make head e in
       rw (first-length s, whole-line ws s (zs .0) h lf (zs .1), long)
 
   pub case-read : (o : Option Head) → o ≡ andThen (numbersIn (fields ws s)) make

@@ -14,6 +14,7 @@ use borrow.Author.Tests.{ltb-true, ltb-false, eqb-true, eq-eqb, ne-eqb}
 use Rattle.units.proofs.Tests.{and-left, and-right}
 use Rattle.fields.proofs.RoundTrip.{lf-bad}
 use Rattle.lines.specs.Lines.{glue, lines, firstOf, total, shaped, fields, signedOf, numberIn, before, numbersIn, numbersOf}
+use Rattle.lines.specs.Records.{andThen}
 
 -- ---- the first line
 
@@ -86,6 +87,18 @@ pub before-back : {A : Type 0} (a : Option A) (b : Option (List A)) (zs : List A
 before-back (some z) (some rest) zs e = (z, rest, refl, refl, cc)
 before-back (some z) none zs e = absurd (none-some e)
 before-back none b zs e = absurd (none-some e)
+
+pub then-back : {A B : Type 0} (o : Option A) (f : A → Option B) (y : B) → andThen o f ≡ some y → (x : A) × (o ≡ some x) × (f x ≡ some y)
+then-back none f y e = absurd (none-some e)
+then-back (some x) f y e = (x, refl, e)
+
+-- as many numbers as widths
+pub count-numbers : (ws l : List ℕ) (zs : List ℤ) → numbersIn (fields ws l) ≡ some zs → length zs ≡ length ws
+unfolding numbersIn fields
+count-numbers [] l zs e = let q : [] ≡ zs = cc in rw (sym q)
+count-numbers (w ∷ ws) l zs e =
+    let p = before-back (numberIn (take w l)) (numbersIn (fields ws (drop w l))) zs e in
+    rw (p .4) (ap suc (count-numbers ws (drop w l) (p .1) (p .3)))
 
 -- a field with LF in it is no number
 lf-none : (f : List ℕ) (i : ℕ) → i < length f → getD f i 0 ≡ 10 → numberIn f ≡ none

@@ -20,7 +20,7 @@ use Rattle.lines.specs.declared.HeadLine.{HeadLine}
 use Rattle.lines.specs.Lines.{lines, firstOf, headWidths, recordWidths, total, shaped, fields, numbersIn, numbersOf}
 use Rattle.lines.specs.Records.{andThen, countsOf, headOf, recordWith, recordOf}
 use Rattle.lines.specs.Reading.{fieldsFrom, countsIn, together, recordLine, headCase}
-use Rattle.lines.proofs.Lines.{lineLength, first-line, short, first-length, line-cases, too-short, no-lf, whole-line, line-numbers}
+use Rattle.lines.proofs.Lines.{lineLength, then-back, first-line, short, first-length, line-cases, too-short, no-lf, whole-line, line-numbers}
 use Rattle.lines.proofs.Counts.{fields-from, sumList, counts-good, counts-bad}
 use Rattle.sheet.specs.declared.Sheet.{Sheet}
 use Rattle.sheet.specs.Sheet.{Outcome, refusedAt, decided, fromRecords, headNumber, headRun, fromHead, sheetOf}
@@ -42,18 +42,14 @@ module _ {A : Type 0} (make : List ℤ → Option A) (ws l : List ℕ) where
   pub made-none : andThen (numbersIn (fields ws l)) make ≡ none → andThen (numbersOf ws (take (lineLength l) l)) make ≡ none
   made-none e = line-cases ws l (λ o. andThen o make ≡ none) refl e
 
-  some-numbers : (o : Option (List ℤ)) (x : A) → andThen o make ≡ some x → (zs : List ℤ) × (o ≡ some zs)
-  some-numbers none x e = let y : _≡_ {A = ℕ} 0 1 = cc in absurd (omega arith)
-  some-numbers (some zs) x e = (zs, refl)
-
   module _ (x : A) (h : total ws < length l) (lf : getD l (total ws) 0 ≡ 10) (e : andThen (numbersIn (fields ws l)) make ≡ some x) where
     pub made-some : andThen (numbersOf ws (take (lineLength l) l)) make ≡ some x
     made-some =
-        let zs = some-numbers (numbersIn (fields ws l)) x e in
+        let zs = then-back (numbersIn (fields ws l)) make x e in
         ap (λ (o : Option (List ℤ)). andThen o make) (line-numbers ws l (zs .0) h lf (zs .1) ∙ sym (zs .1)) ∙ e
 
     pub made-length : lineLength l ≡ total ws + 1
-    made-length = let zs = some-numbers (numbersIn (fields ws l)) x e in whole-line ws l (zs .0) h lf (zs .1)
+    made-length = let zs = then-back (numbersIn (fields ws l)) make x e in whole-line ws l (zs .0) h lf (zs .1)
 
 -- ---- record lines
 
