@@ -20,14 +20,16 @@ use Rattle.coldstart.specs.ColdStart.{slopeOf, monthAt, coldSum, xDenominator}
 use Rattle.coldstart.proofs.ColdStart.{hundredths}
 use Rattle.inventory.specs.declared.Head.{Head}
 use Rattle.inventory.specs.declared.Record.{Record}
+use Rattle.inventory.specs.Order.{inOrder}
 use Rattle.inventory.specs.Opening.{emptyRun, freshRun}
 use Rattle.inventory.specs.Adding.{billionths, coldRate, hotPart, coldPart, partOf, partAt}
+use Rattle.inventory.proofs.Fresh.{empty-order}
 use Rattle.accuracy.specs.Reference.{coldSumOf, weightOf, exactX, hasRoom, accepts, acceptedFrom, accepted}
 use Rattle.accuracy.specs.Claim.{runAfter}
 use Rattle.accuracy.specs.ColdValues.{openedX, NotCoOfClass3, SameFifteen, WithoutClass3, withX, sumOfMonths, sumOfDays, EachX, ColdValuesClaim}
 use Rattle.accuracy.proofs.Sums.{sumOf}
 use Rattle.accuracy.proofs.OneRecord.{x-rounded, weight-of-taken}
-use Rattle.accuracy.proofs.Closed.{HeadLimits, slotSum, gramsOf, restOf, closed, run-closed}
+use Rattle.accuracy.proofs.Closed.{slotSum, gramsOf, restOf, closed, run-closed}
 
 rounded : (head : Head) (class quantity : ℕ) → quantity < 5
     → openedX head class quantity ≡ halfUp (exactX head class quantity .numerator) (exactX head class quantity .denominator)
@@ -124,7 +126,7 @@ kept (rec ∷ recs) n w = go (accepts (hasRoom n) rec) (kept recs (n + 1) (w .1)
     go true a c = (w .0, a)
     go false a c = c
 
-same-run : (trip : ℕ) (xs ys : List ℕ) → HeadLimits trip xs → HeadLimits trip ys → SameFifteen xs ys → (recs : List Record) → WithoutClass3 recs
+same-run : (trip : ℕ) (xs ys : List ℕ) → inOrder (emptyRun trip xs) ≡ true → inOrder (emptyRun trip ys) ≡ true → SameFifteen xs ys → (recs : List Record) → WithoutClass3 recs
     → runAfter (emptyRun trip ys) recs ≡ withX ys (runAfter (emptyRun trip xs) recs)
 unfolding accepted
 same-run trip xs ys a b same recs w = rw (run-closed trip ys b recs, run-closed trip xs a recs) (same-closed xs ys same trip (acceptedFrom 0 recs) (kept recs 0 w))
@@ -139,5 +141,5 @@ cold-values =
       last-x-alone = same-part;
       without-class-3 =
           λ trip xs ys low high mx my same recs w.
-          same-run trip xs ys (record { trip-low = low; trip-high = high; x-most = mx }) (record { trip-low = low; trip-high = high; x-most = my }) same recs w;
+          same-run trip xs ys (empty-order trip xs low high mx) (empty-order trip ys low high my) same recs w;
     }

@@ -22,13 +22,14 @@ use Rattle.inventory.specs.declared.Head.{Head}
 use Rattle.inventory.specs.declared.Record.{Record}
 use Rattle.inventory.specs.declared.Run.{Run}
 use Rattle.inventory.specs.Records.{temperaturesWrong, headGrounds, vehicleKm, sharesWrong, speedsWrong, recordGrounds}
-use Rattle.inventory.specs.Order.{inOrder}
+use Rattle.inventory.specs.Order.{inOrder, sameHead}
 use Rattle.inventory.specs.Opening.{openNumber}
 use Rattle.inventory.specs.Adding.{addGrounds, addNumber}
 use Rattle.inventory.specs.Printed.{answered, totalGrounds, totalOf}
+use Rattle.joins.specs.Joining.{joinGrounds, joinNumber}
 use Rattle.balance.specs.Balance.{balanceRatio, soldGrounds, balanceGrounds, balanceNumber, balanceOf, printedFuel}
 use Rattle.listing.specs.Report.{reportBytes, reportGrounds, reportNumber, reportOf}
-use Rattle.accuracy.specs.Conditions.{tripOut, monthOut, someOut, leapYear, daysOfMonth, dateOut, dayOut, noSuchDay, wrongOrder, openingNumber, classOut, vehiclesOut, kmOut, distanceOut, sharesOut, speedOut, runFull, fuelOrQuantityOut, noFuelUsed, soldFuelOut, bufferShort, recordElse, recordNumber}
+use Rattle.accuracy.specs.Conditions.{tripOut, monthOut, someOut, leapYear, daysOfMonth, dateOut, dayOut, noSuchDay, wrongOrder, openingNumber, classOut, vehiclesOut, kmOut, distanceOut, sharesOut, speedOut, runFull, fuelOrQuantityOut, noFuelUsed, soldFuelOut, bufferShort, recordElse, recordNumber, headX, someXDiffers, headsDiffer, fullTogether, joiningNumber}
 use Rattle.accuracy.specs.Claim.{fuelTotal}
 
 -- ---- opening
@@ -146,3 +147,26 @@ module _ (run : Run) (order : inOrder run ≡ true) where
   balances fuel quantity s =
       rw (order, two 13 (ltb 999999999 s) (outside 500000 1500000 (balanceRatio s (printedFuel run (fuel - 1)))) 0)
       (by-fuel 11 (outside 1 3 fuel) (outside 1 5 quantity) (printedFuel run (fuel - 1)) (λ f. cond (noFuelUsed f) 12 (cond (soldFuelOut s f) 13 0)))
+
+-- ---- joining
+
+xs-differ : (xs ys : List ℕ) (n : ℕ) → not (allBelow (λ i. eqb (getD xs i 0) (getD ys i 0)) n) ≡ someXDiffers n xs ys
+unfolding allBelow someXDiffers
+xs-differ xs ys zero = refl
+xs-differ xs ys (suc n) =
+    not-and (allBelow (λ i. eqb (getD xs i 0) (getD ys i 0)) n) (eqb (getD xs n 0) (getD ys n 0))
+    ∙ ap (λ b. b || not (eqb (getD xs n 0) (getD ys n 0))) (xs-differ xs ys n)
+
+-- two runs with the L and X of two heads
+module _ (a b : Run) (p q : Head) (t : a .trip ≡ p .trip) (x : a .x ≡ headX p) (u : b .trip ≡ q .trip) (y : b .x ≡ headX q) where
+  pub heads-differ : not (sameHead a b) ≡ headsDiffer p q
+  unfolding sameHead headsDiffer
+  heads-differ =
+      rw (t, x, u, y)
+      (not-and (eqb (p .trip) (q .trip)) (allBelow (λ i. eqb (getD (headX p) i 0) (getD (headX q) i 0)) 16)
+      ∙ ap (λ b. not (eqb (p .trip) (q .trip)) || b) (xs-differ (headX p) (headX q) 16))
+
+  -- in order, heads and counts decide
+  pub joining : inOrder a ≡ true → inOrder b ≡ true → joinNumber a b ≡ joiningNumber p q (a .count) (b .count)
+  unfolding joinNumber joinGrounds firstFit joiningNumber fullTogether
+  joining o r = rw (o, r, heads-differ)

@@ -1,9 +1,10 @@
 pub mod Sums
+pub mod Near
 pub mod OneRecord
-pub mod Closed
-pub mod Distance
-pub mod Order
 pub mod Conditions
+pub mod Measured
+pub mod Closed
+pub mod Order
 pub mod Whole
 pub mod ColdValues
 pub mod Numbers

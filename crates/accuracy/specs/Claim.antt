@@ -32,7 +32,7 @@ allowance km = plus (over 1 2) (over (15 * km) (10 * 10000000))
 abbrev pub fuelTotal : Run → ℕ → ℕ
 fuelTotal run fuel = totalOf run fuel 5 .grams
 
--- what holds of the run after a list of records, given the reference after it
+-- what holds of the run after a list of records or any other history, given the reference after it
 pub record ListClaim (run : Run) (reference : Reference) : Type 0 where
   -- the next add takes its record exactly where the reference accepts it
   pub takes : (rec : Record) → eqb (addNumber run rec) 0 ≡ accepts (hasRoom (reference .count)) rec

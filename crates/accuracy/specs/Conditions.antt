@@ -11,6 +11,7 @@ use lib.Signed.{ltZ}
 use Rattle.units.specs.Rounding.{halfUp}
 use Rattle.calendar.specs.declared.Period.{Period}
 use Rattle.calendar.specs.declared.Period.the-variants as period
+use Rattle.coldstart.specs.ColdStart.{coldValues}
 use Rattle.inventory.specs.declared.Head.{Head}
 use Rattle.inventory.specs.declared.Record.{Record}
 
@@ -124,3 +125,24 @@ recordElse behind rec =
 -- the number of adding a record where so many were taken: the first of 3 to 8 that fits, then 9, else 0
 unfoldable pub recordNumber : ℕ → Record → ℕ
 recordNumber count rec = recordElse (cond (runFull count) 9 0) rec
+
+-- the sixteen X of a head, as its run holds them
+abbrev pub headX : Head → List ℕ
+headX head = coldValues (head .period) (head .trip) (head .temps)
+
+-- one of the first n values X differs
+unfoldable pub someXDiffers : ℕ → List ℕ → List ℕ → Bool
+someXDiffers zero xs ys = false
+someXDiffers (suc n) xs ys = someXDiffers n xs ys || not (eqb (getD xs n 0) (getD ys n 0))
+
+-- 21: L or an X of two heads differs
+unfoldable pub headsDiffer : Head → Head → Bool
+headsDiffer p q = not (eqb (p .trip) (q .trip)) || someXDiffers 16 (headX p) (headX q)
+
+-- 22: more than 5,000 records together
+unfoldable pub fullTogether : ℕ → ℕ → Bool
+fullTogether m n = ltb 5000 (m + n)
+
+-- the number of joining two runs, told from their heads and counts alone: 21, then 22, else 0
+unfoldable pub joiningNumber : Head → Head → ℕ → ℕ → ℕ
+joiningNumber p q m n = cond (headsDiffer p q) 21 (cond (fullTogether m n) 22 0)

@@ -12,19 +12,16 @@ use Rattle.units.proofs.Tab.{tab-length}
 use Rattle.inventory.specs.declared.Record.{Record}
 use Rattle.inventory.specs.declared.Run.{Run}
 use Rattle.inventory.specs.Records.{recordGrounds}
-use Rattle.inventory.specs.Order.{inOrder}
+use Rattle.inventory.specs.Limits.{Shaped}
+use Rattle.inventory.specs.Order.{inOrder, sameHead}
 use Rattle.inventory.specs.Adding.{runWith}
 use Rattle.inventory.proofs.Kept.{order-with}
+use Rattle.inventory.proofs.Runs.{shaped-with}
 use Rattle.accuracy.specs.Reference.{acceptable}
-use Rattle.areas.specs.Areas.{Areas, countsOf, beyondOwn, commonUse, sameHead, areaOk, areasInOrder, commonAfter, withRun, areasWith}
-use Rattle.areas.proofs.Numbers.{Shaped}
+use Rattle.areas.specs.Areas.{Areas, countsOf, beyondOwn, commonUse, areaOk, areasInOrder, commonAfter, withRun, areasWith}
 use Rattle.areas.proofs.Order.{run-ok, head-ok, common-is, common-most, order-areas}
 use Rattle.area_claims.specs.References.{AreaAdd, acceptsIn}
 use Rattle.area_claims.proofs.OneAdd.{accepts-low, accepts-own, accepts-free, accepts-few}
-
-pub shaped-with : (run : Run) (rec : Record) → Shaped run → Shaped (runWith run rec)
-unfolding runWith
-shaped-with run rec s = record { xs = s .xs; kms = tab-length _ 3; grams = tab-length _ 60; rests = tab-length _ 60 }
 
 same-kept : (a b p q : Run) → p .trip ≡ a .trip → p .x ≡ a .x → q .trip ≡ b .trip → q .x ≡ b .x → sameHead a b ≡ true → sameHead p q ≡ true
 unfolding sameHead

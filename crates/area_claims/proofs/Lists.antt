@@ -12,20 +12,23 @@ use Rattle.units.specs.Grounds.{firstFit}
 use Rattle.units.proofs.Tab.{tab-length}
 use Rattle.classes.specs.Classes.{xCount}
 use Rattle.inventory.specs.declared.Head.{Head}
+use Rattle.inventory.specs.Limits.{Shaped}
 use Rattle.inventory.specs.Order.{inOrder}
 use Rattle.inventory.specs.Opening.{openNumber, openRun, freshRun, zeroRun, emptyRun}
 use Rattle.inventory.specs.Adding.{addRun}
+use Rattle.inventory.proofs.Heads.{head-self}
+use Rattle.inventory.proofs.Runs.{shaped-opened}
 use Rattle.accuracy.specs.Conditions.{openingNumber}
 use Rattle.accuracy.specs.Reference.{empty, referenceFrom, referenceOf}
 use Rattle.accuracy.specs.Claim.{runAfter, ListClaim, SameReport, EveryList}
-use Rattle.accuracy.proofs.Closed.{takes-accepted}
+use Rattle.accuracy.proofs.Measured.{takes-accepted}
 use Rattle.accuracy.proofs.Conditions as conditions
 use Rattle.accuracy.proofs.Whole as whole
 use Rattle.areas.specs.Areas.{countsOf, commonUse, areasInOrder, areasWith, openedAreas}
 use Rattle.areas.specs.Numbers.{areasOf, numbersOf}
 use Rattle.areas.specs.Calls.{sizeOk, numbersInOrder, openAreasNumber, openAreasNumbers, addAreaNumbers, areaRun}
-use Rattle.areas.proofs.Numbers.{Shaped, shaped-at, run-back}
-use Rattle.areas.proofs.Order.{head-self, run-ok, records-most, order-areas, areas-ok, numbers-order}
+use Rattle.areas.proofs.Numbers.{shaped-at, run-back}
+use Rattle.areas.proofs.Order.{run-ok, records-most, order-areas, areas-ok, numbers-order}
 use Rattle.areas.proofs.Adding.{run-given}
 use Rattle.area_claims.specs.References.{AreaAdd, acceptsIn, entersArea, countsIn, referencesOf, countsWith, acceptedInFrom, acceptedIn}
 use Rattle.area_claims.specs.Claim.{numbersAfter, AreasAfter, SameAcceptedIn, EveryAreasList, AreasClaim}
@@ -163,14 +166,6 @@ after-list [] numbers counts o n = after-none numbers counts o
 after-list (add ∷ adds) numbers counts o n = step numbers o counts n add adds (after-list adds) _ refl
 
 -- ---- freshly opened areas
-
-shaped-opened : (head : Head) → Shaped (openRun head)
-unfolding openRun freshRun zeroRun emptyRun
-shaped-opened head = by _ refl
-  where
-    by : (b : Bool) → eqb (openNumber head) 0 ≡ b → Shaped (cond (eqb (openNumber head) 0) (freshRun head) zeroRun)
-    by true e = rw e (record { xs = tab-length _ xCount; kms = tab-length _ 3; grams = tab-length _ 60; rests = tab-length _ 60 })
-    by false e = rw e (record { xs = tab-length _ xCount; kms = tab-length _ 3; grams = tab-length _ 60; rests = tab-length _ 60 })
 
 -- what opening that is taken has
 taken-by : (numbers : List ℕ) (head : Head) (b : Bool) → sizeOk numbers ≡ b → openAreasNumber numbers head ≡ 0 → (sizeOk numbers ≡ true) × (openNumber head ≡ 0)

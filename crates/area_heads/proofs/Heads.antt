@@ -7,8 +7,7 @@ use lib.ListN.{getD}
 use borrow.Author.Tests.{lt-leb, le-leb, eq-eqb, ne-eqb}
 use Rattle.units.specs.Lists.{allBelow}
 use Rattle.classes.specs.Classes.{xCount}
-use Rattle.inventory.specs.Order.{xOk}
-use Rattle.areas.specs.Areas.{sameX, sameHead}
+use Rattle.inventory.specs.Order.{xOk, sameX, sameHead}
 use Rattle.areas.specs.Numbers.{runAt}
 use Rattle.areas.proofs.Numbers.{trip-read, x-read}
 

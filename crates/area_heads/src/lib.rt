@@ -4,8 +4,7 @@ ghost use Prim.Native.Nat.{_+_, _≤_};
 ghost use lib.ListN.{length};
 ghost use Rattle.units.specs.Lists.{allBelow};
 ghost use Rattle.classes.specs.Classes.{xCount};
-ghost use Rattle.inventory.specs.Order.{xOk};
-ghost use Rattle.areas.specs.Areas.{sameHead};
+ghost use Rattle.inventory.specs.Order.{xOk, sameHead};
 ghost use Rattle.areas.specs.Numbers.{runAt};
 
 // Whether every X of the first run is in range.

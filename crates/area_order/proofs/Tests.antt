@@ -13,9 +13,10 @@ use Rattle.units.specs.Grounds.{outside}
 use Rattle.units.proofs.Tests.{all, at, fails, and-false, and-left}
 use Rattle.classes.specs.Classes.{xCount}
 use Rattle.inventory.specs.declared.Run.{Run}
-use Rattle.inventory.specs.Order.{xOk, sumOk, kmOk, inOrder}
+use Rattle.inventory.specs.Order.{xOk, sumOk, kmOk, inOrder, sameHead}
+use Rattle.inventory.proofs.Heads.{trip-same, x-same}
 use Rattle.inventory.proofs.Order.{bad-trip, bad-x, bad-count, bad-sum, last-test, count-of}
-use Rattle.areas.specs.Areas.{sameHead, areaOk, areasInOrder, commonUse, countsOf, beyondOwn}
+use Rattle.areas.specs.Areas.{areaOk, areasInOrder, commonUse, countsOf, beyondOwn}
 use Rattle.areas.specs.Numbers.{runAt, areasOf}
 use Rattle.areas.specs.Calls.{numbersInOrder}
 use Rattle.areas.proofs.Numbers.{trip-read, count-read, km-read}
@@ -38,12 +39,12 @@ module _ (first run : Run) (trip : outside 10 200 (first .trip) ≡ false) (x : 
 
   module _ (same : sameHead first run ≡ true) where
     its-trip : outside 10 200 (run .trip) ≡ false
-    its-trip = let e = order.trip-same first run same in rw e at trip
+    its-trip = let e = trip-same first run same in rw e at trip
 
     its-x : allBelow (xOk run) xCount ≡ true
     its-x =
         all (xOk run) xCount
-        (λ i h. let e = order.x-same first run same i h in let y : leb (getD (first .x) i 0) 4900000000 ≡ true = at (xOk first) xCount x i h in rw e at y)
+        (λ i h. let e = x-same first run same i h in let y : leb (getD (first .x) i 0) 4900000000 ≡ true = at (xOk first) xCount x i h in rw e at y)
 
     pub over-count : 5000 < run .count → false ≡ (inOrder run && sameHead first run)
     over-count h = rw (← bad-count run h)

@@ -7,15 +7,14 @@ use Prim.Native.Nat.{ℕ, _+_, _*_, _-_, _/_, _%_, _≤_, _<_}
 use native.Mathlib.Omega.{arith}
 use lib.ListN.{length, getD}
 use lib.Dec.{ltb}
-use lib.Seq.{ext-getD}
 use borrow.Author.Tests.{lt-ltb, le-ltb, ltb-true, ltb-false}
-use Rattle.units.specs.declared.Grams.{Grams}
-use Rattle.units.specs.declared.VehicleKm.{VehicleKm}
 use Rattle.units.specs.Lists.{tab}
-use Rattle.units.proofs.Tab.{tab-at, tab-length}
+use Rattle.units.proofs.Tab.{tab-at, tab-length, tab-of}
 use Rattle.classes.specs.Classes.{xCount}
 use Rattle.inventory.specs.declared.Run.{Run}
+use Rattle.inventory.specs.Limits.{Shaped}
 use Rattle.inventory.specs.Order.{gramsIn, restIn, kmIn}
+use Rattle.inventory.proofs.Runs.{by-parts, as-km, as-grams}
 use Rattle.areas.specs.Areas.{Areas}
 use Rattle.areas.specs.Numbers.{numberAt, kmAt, gramsAt, runSize, areasSize, runAt, runNumber, areasOf, areasNumber, numbersOf}
 
@@ -107,31 +106,9 @@ module _ (numbers : List ℕ) (at k : ℕ) (h : k < runSize) where
 
 -- ---- areas told back from their numbers
 
--- a run whose arrays have their lengths
-pub record Shaped (run : Run) : Type 0 where
-  pub xs : length (run .x) ≡ xCount
-  pub kms : length (run .km) ≡ 3
-  pub grams : length (run .grams) ≡ 60
-  pub rests : length (run .rests) ≡ 60
-
 pub shaped-at : (numbers : List ℕ) (at : ℕ) → Shaped (runAt numbers at)
 unfolding runAt
 shaped-at numbers at = record { xs = tab-length _ xCount; kms = tab-length _ 3; grams = tab-length _ 60; rests = tab-length _ 60 }
-
-by-parts : (p q : Run) → p .trip ≡ q .trip → p .x ≡ q .x → p .count ≡ q .count → p .km ≡ q .km → p .grams ≡ q .grams → p .rests ≡ q .rests → p ≡ q
-by-parts p q a b c d e f = λ i. record { trip = a i; x = b i; count = c i; km = d i; grams = e i; rests = f i }
-
--- a list by index is a list of its length whose elements are the same
-tab-is : {A : Type 0} (d : A) (f : ℕ → A) (n : ℕ) (l : List A) → length l ≡ n → ((k : ℕ) → k < n → f k ≡ getD l k d) → tab f n ≡ l
-tab-is d f n l s e =
-    ext-getD d (tab f n) l (tab-length f n ∙ sym s)
-    (λ k h. let t : k < n = rw (tab-length f n) at h in tab-at d f n k t ∙ e k t)
-
-as-km : {n : ℕ} {v : VehicleKm} → n ≡ v .0 → _≡_ {A = VehicleKm} (record { 0 = n }) v
-as-km e = ap (λ n. record { 0 = n }) e
-
-as-grams : {n : ℕ} {v : Grams} → n ≡ v .0 → _≡_ {A = Grams} (record { 0 = n }) v
-as-grams e = ap (λ n. record { 0 = n }) e
 
 module _ (a : Areas) where
   pub size-of : length (numbersOf a) ≡ areasSize
@@ -155,14 +132,14 @@ module _ (a : Areas) where
     run-back =
         let run = a .runs i in
         by-parts (runAt (numbersOf a) (i * 141)) run (entry-in i 0 (i * 141) h (omega arith) (omega arith) ∙ number-trip run 0 refl)
-        (tab-is 0 (numberAt (numbersOf a) (i * 141 + 1)) xCount (run .x) (s .xs)
+        (tab-of 0 (numberAt (numbersOf a) (i * 141 + 1)) (run .x) xCount (s .xs)
         (λ k l. entry-in i (k + 1) (i * 141 + 1 + k) h (omega arith) (omega arith) ∙ number-x run (k + 1) k refl l))
         (entry-in i 17 (i * 141 + 17) h (omega arith) refl ∙ number-count run 17 refl)
-        (tab-is (record { 0 = 0 }) (kmAt (numbersOf a) (i * 141 + 18)) 3 (run .km) (s .kms)
+        (tab-of (record { 0 = 0 }) (kmAt (numbersOf a) (i * 141 + 18)) (run .km) 3 (s .kms)
         (λ k l. as-km (entry-in i (k + 18) (i * 141 + 18 + k) h (omega arith) (omega arith) ∙ number-km run (k + 18) k refl l)))
-        (tab-is (record { 0 = 0 }) (gramsAt (numbersOf a) (i * 141 + 21)) 60 (run .grams) (s .grams)
+        (tab-of (record { 0 = 0 }) (gramsAt (numbersOf a) (i * 141 + 21)) (run .grams) 60 (s .grams)
         (λ k l. as-grams (entry-in i (k + 21) (i * 141 + 21 + k) h (omega arith) (omega arith) ∙ number-grams run (k + 21) k refl l)))
-        (tab-is 0 (numberAt (numbersOf a) (i * 141 + 81)) 60 (run .rests) (s .rests)
+        (tab-of 0 (numberAt (numbersOf a) (i * 141 + 81)) (run .rests) 60 (s .rests)
         (λ k l. entry-in i (k + 81) (i * 141 + 81 + k) h (omega arith) (omega arith) ∙ number-rest run (k + 81) k refl))
 
   pub common-back : areasOf (numbersOf a) .common ≡ a .common

@@ -12,26 +12,12 @@ use Rattle.units.proofs.Sums.{all-alike, sum-alike, sum-beyond, term-most}
 use Rattle.units.proofs.Tests.{all, at, and-left, and-right}
 use Rattle.classes.specs.Classes.{xCount}
 use Rattle.inventory.specs.declared.Run.{Run}
-use Rattle.inventory.specs.Order.{inOrder}
-use Rattle.areas.specs.Areas.{Areas, areaCount, commonLimit, countsOf, beyondOwn, commonUse, sameX, sameHead, areaOk, areasInOrder}
+use Rattle.inventory.specs.Limits.{Shaped}
+use Rattle.inventory.specs.Order.{inOrder, sameHead}
+use Rattle.areas.specs.Areas.{Areas, areaCount, commonLimit, countsOf, beyondOwn, commonUse, areaOk, areasInOrder}
 use Rattle.areas.specs.Numbers.{areasSize, areasOf, numbersOf}
 use Rattle.areas.specs.Calls.{sizeOk, numbersInOrder}
-use Rattle.areas.proofs.Numbers.{Shaped, run-back, common-back, size-of}
-
--- ---- one head
-
-module _ (a b : Run) (s : sameHead a b ≡ true) where
-  pub trip-same : a .trip ≡ b .trip
-  unfolding sameHead
-  trip-same = eqb-true _ _ (and-left (eqb (a .trip) (b .trip)) (allBelow (sameX a b) xCount) s)
-
-  pub x-same : (i : ℕ) → i < xCount → getD (a .x) i 0 ≡ getD (b .x) i 0
-  unfolding sameHead
-  x-same i h = eqb-true _ _ (at (sameX a b) xCount (and-right (eqb (a .trip) (b .trip)) (allBelow (sameX a b) xCount) s) i h)
-
-pub head-self : (run : Run) → sameHead run run ≡ true
-unfolding sameHead
-head-self run = rw (eq-eqb (run .trip) (run .trip) refl) (all (sameX run run) xCount (λ i h. eq-eqb (getD (run .x) i 0) (getD (run .x) i 0) refl))
+use Rattle.areas.proofs.Numbers.{run-back, common-back, size-of}
 
 -- ---- what areas in order have
 

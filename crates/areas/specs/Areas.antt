@@ -13,7 +13,7 @@ use Rattle.inventory.specs.declared.Head.{Head}
 use Rattle.inventory.specs.declared.Record.{Record}
 use Rattle.inventory.specs.declared.Run.{Run}
 use Rattle.inventory.specs.Records.{recordGrounds}
-use Rattle.inventory.specs.Order.{inOrder}
+use Rattle.inventory.specs.Order.{inOrder, sameHead}
 use Rattle.inventory.specs.Opening.{openRun}
 use Rattle.inventory.specs.Adding.{runWith}
 
@@ -44,13 +44,6 @@ beyondOwn counts i = counts i - ownLimit
 -- the records beyond 300 summed over the areas
 unfoldable pub commonUse : (ℕ → ℕ) → ℕ
 commonUse counts = sumTo (beyondOwn counts) areaCount
-
-abbrev pub sameX : Run → Run → ℕ → Bool
-sameX a b i = eqb (getD (a .x) i 0) (getD (b .x) i 0)
-
--- the same L and the same X
-unfoldable pub sameHead : Run → Run → Bool
-sameHead a b = eqb (a .trip) (b .trip) && allBelow (sameX a b) xCount
 
 -- the run of an area is in order, and has the head of the first
 abbrev pub areaOk : Areas → ℕ → Bool

@@ -3,17 +3,10 @@
 ghost use mathlib.Core.Path.{_≡_};
 ghost use Rattle.areas.specs.Calls.{openAreasNumber, openAreasNumbers, addAreaNumber, addAreaNumbers, areaRunNumber, areaRun};
 ghost use Rattle.capi_heads.specs.Heads.{headFrom};
-ghost use Rattle.capi_areas.specs.Answers.{areaRunAnswer};
+ghost use Rattle.capi_answers.specs.Answers.{runAnswer};
+use capi_answers::RunAnswer;
 use capi_heads::HeadNumbers;
 use inventory::Record;
-use inventory::Run;
-
-// A number, 0 where the run is given, and the run of an area.
-#[repr(C)]
-pub struct AreaRunAnswer {
-    pub number: u64,
-    pub run: Run,
-}
 
 #[no_mangle]
 pub extern "C" fn haldurap_open_areas(numbers: &mut [u64], head: HeadNumbers) -> u64
@@ -36,12 +29,12 @@ pub extern "C" fn haldurap_add_area(numbers: &mut [u64], area: u64, rec: Record)
 }
 
 #[no_mangle]
-pub extern "C" fn haldurap_area_run(numbers: &[u64], area: u64) -> AreaRunAnswer
-    ensures { λ r. ⌜ r ≡ areaRunAnswer (areaRunNumber (now (numbers .entry)) area) (areaRun (now (numbers .entry)) area) ⌝ }
+pub extern "C" fn haldurap_area_run(numbers: &[u64], area: u64) -> RunAnswer
+    ensures { λ r. ⌜ r ≡ runAnswer (areaRunNumber (now (numbers .entry)) area) (areaRun (now (numbers .entry)) area) ⌝ }
 {
     let a = area_recording::area_run(numbers, area);
     let v = a.verdict;
     let number = units::verdict_number(v);
     let run = a.run;
-    AreaRunAnswer { number, run }
+    RunAnswer { number, run }
 }

@@ -1,13 +1,8 @@
--- Answers about runs as they cross to C: a number and the values (SPECIFICATION, "C interface").
+-- The order of a run and the layout as they cross to C (SPECIFICATION, "C interface").
 -- Assumes nothing.
 use Prim.Native.Nat.{ℕ, _*_}
 use mathlib.Core.Bool.{Bool, cond}
-use Rattle.inventory.specs.declared.Run.{Run}
-use Rattle.capi_runs.specs.declared.RunAnswer.{RunAnswer}
 use Rattle.capi_runs.specs.declared.Layout.{Layout}
-
-abbrev pub runAnswer : ℕ → Run → RunAnswer
-runAnswer number run = record { number = number; run = run }
 
 -- 1 for a run in order, else 0
 abbrev pub orderAnswer : Bool → ℕ

@@ -4,17 +4,12 @@ ghost use Rattle.inventory.specs.Order.{inOrder};
 ghost use Rattle.inventory.specs.Opening.{openNumber, openRun};
 ghost use Rattle.inventory.specs.Adding.{addNumber, addRun};
 ghost use Rattle.capi_heads.specs.Heads.{headFrom};
-ghost use Rattle.capi_runs.specs.Answers.{runAnswer, orderAnswer, layoutOf};
+ghost use Rattle.capi_answers.specs.Answers.{runAnswer};
+ghost use Rattle.capi_runs.specs.Answers.{orderAnswer, layoutOf};
+use capi_answers::RunAnswer;
 use capi_heads::HeadNumbers;
 use inventory::Record;
 use inventory::Run;
-
-// A number, 0 where it is taken, and a run.
-#[repr(C)]
-pub struct RunAnswer {
-    pub number: u64,
-    pub run: Run,
-}
 
 // The version of the structs' layout, and the size of a run in bytes.
 #[repr(C)]

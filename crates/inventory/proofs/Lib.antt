@@ -3,3 +3,6 @@ pub mod Records
 pub mod Adding
 pub mod Totals
 pub mod Kept
+pub mod Runs
+pub mod Heads
+pub mod Fresh

@@ -1,8 +1,10 @@
--- The bounds of accepted records and of runs in order that keep every step of the code in 64 bits: what inner functions require.
+-- The bounds of accepted records and of runs in order that keep every step of the code in 64 bits: what inner functions require;
+-- and the lengths of a run's arrays.
 -- Assumes nothing.
 use Prim.Native.Nat.{ℕ, _≤_, _<_}
+use mathlib.Core.Path.{_≡_}
 use mathlib.Core.List.{List}
-use lib.ListN.{getD}
+use lib.ListN.{length, getD}
 use Rattle.classes.specs.Classes.{xCount}
 use Rattle.factors.specs.Factors.{Driven}
 use Rattle.coldstart.specs.ColdStart.{xMost}
@@ -28,3 +30,10 @@ pub record RunLimits (run : Run) : Type 0 where
   pub rest-below : (j : ℕ) → j < 60 → restIn run j < 1000000000
   pub grams-most : (j : ℕ) → j < 60 → gramsIn run j ≤ 5000000000000000
   pub km-most : (fuel : ℕ) → fuel < 3 → kmIn run fuel ≤ 5000000000000
+
+-- every run of the type: its arrays have their lengths
+pub record Shaped (run : Run) : Type 0 where
+  pub xs : length (run .x) ≡ xCount
+  pub kms : length (run .km) ≡ 3
+  pub grams : length (run .grams) ≡ 60
+  pub rests : length (run .rests) ≡ 60

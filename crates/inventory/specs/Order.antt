@@ -2,7 +2,7 @@
 -- Assumes nothing.
 use Prim.Native.Nat.{ℕ, _+_, _*_}
 use mathlib.Core.Bool.{Bool, not, _&&_}
-use lib.Dec.{leb, ltb}
+use lib.Dec.{leb, ltb, eqb}
 use lib.ListN.{getD}
 use Rattle.units.specs.Lists.{allBelow}
 use Rattle.units.specs.Grounds.{outside}
@@ -47,3 +47,10 @@ kmOk run fuel = leb (kmIn run fuel) (1000000000 * run .count)
 unfoldable pub inOrder : Run → Bool
 inOrder run =
     not (outside 10 200 (run .trip)) && allBelow (xOk run) xCount && leb (run .count) recordLimit && allBelow (sumOk run) 60 && allBelow (kmOk run) 3
+
+abbrev pub sameX : Run → Run → ℕ → Bool
+sameX a b i = eqb (getD (a .x) i 0) (getD (b .x) i 0)
+
+-- the same L and the same X
+unfoldable pub sameHead : Run → Run → Bool
+sameHead a b = eqb (a .trip) (b .trip) && allBelow (sameX a b) xCount

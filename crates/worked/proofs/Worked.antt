@@ -23,14 +23,15 @@ use Rattle.inventory.specs.Adding.{billionths, hotPart, coldRate, coldPart, par
 use Rattle.inventory.specs.Opening.{emptyRun, freshRun, openNumber, openRun}
 use Rattle.inventory.specs.Printed.{exactTotal, printedTotal, totalGrounds, answered, totalOf}
 use Rattle.accuracy.specs.Reference.{acceptable, hasRoom, accepts, exactHot, exactCold, exactOf, empty, withRecord, fed, referenceFrom, referenceOf, exactDenominator, acceptedFrom, accepted}
+use Rattle.accuracy.specs.Conditions.{headX}
 use Rattle.accuracy.specs.Claim.{runAfter}
 use Rattle.accuracy.specs.Numbers.{exampleHead, exampleOf}
 use Rattle.accuracy.proofs.Sums.{sumOf}
-use Rattle.accuracy.proofs.OneRecord.{headX, brings, exactIn}
+use Rattle.accuracy.proofs.OneRecord.{brings}
 use Rattle.accuracy.proofs.Closed.{kmSum, closed}
-use Rattle.accuracy.proofs.Distance.{reference-count, reference-km, reference-exact, total-closed}
 use Rattle.accuracy.proofs.Whole.{after, every-list}
 use Rattle.worked.specs.Worked.{many, WorkedClaim}
+use Rattle.worked.proofs.Closed.{exactIn, reference-count, reference-km, reference-exact, total-closed}
 
 many-length : (n : ℕ) → length (many n) ≡ n
 many-length zero = refl

@@ -6,7 +6,7 @@ use native.Mathlib.Omega.{arith}
 use Rattle.units.specs.Lists.{allBelow}
 use Rattle.units.proofs.Tests.{more, fails, done}
 use Rattle.classes.specs.Classes.{xCount}
-use Rattle.areas.specs.Areas.{sameX}
+use Rattle.inventory.specs.Order.{sameX}
 use Rattle.areas.specs.Numbers.{runAt}
 use Rattle.area_heads.proofs.Heads.{x-same, x-differs, trip-same, trip-differs}
 use borrow.Author.Needs.{needs}

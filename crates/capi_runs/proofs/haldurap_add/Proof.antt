@@ -1,5 +1,5 @@
 -- `capi_runs::haldurap_add` meets its contract. Assumes nothing.
-use Rattle.capi_runs.proofs.Crossing.{run-crosses}
+use Rattle.capi_answers.proofs.Crossing.{run-crosses}
 use borrow.Author.Needs.{needs}
 use Rattle.capi_runs.proofs.haldurap_add.Statement.{statement}
 use Rattle.capi_runs.proofs.haldurap_add.Tie as tie

@@ -1,7 +1,7 @@
 -- `capi_runs::haldurap_open` meets its contract. Assumes nothing.
 use mathlib.Core.Path.{ap, _∙_}
 use Rattle.inventory.specs.Opening.{openNumber, openRun}
-use Rattle.capi_runs.proofs.Crossing.{run-crosses}
+use Rattle.capi_answers.proofs.Crossing.{run-crosses}
 use borrow.Author.Needs.{needs}
 use Rattle.capi_runs.proofs.haldurap_open.Statement.{statement}
 use Rattle.capi_runs.proofs.haldurap_open.Tie as tie

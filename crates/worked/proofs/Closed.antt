@@ -1,30 +1,28 @@
--- The reference in closed form, and the distance of each printed total from it, after any list of adds.
--- Assumes nothing.
+-- The reference and the totals of a list of adds, in closed form over the accepted records: for lists too long to compute. Assumes nothing.
 use mathlib.Core.Path.{_≡_, refl, ap, _∙_}
 use mathlib.Core.Bool.{Bool, true, false, cond}
 use mathlib.Core.List.{List, [], _∷_}
-use Prim.Native.Nat.{ℕ, _+_, _*_, _<_}
-use native.Mathlib.Nat.{mul-le-mul-right}
+use Prim.Native.Nat.{ℕ, _+_, _<_}
 use native.Mathlib.Omega.{arith}
 use lib.Dec.{eqb, lit<}
 use lib.ListN.{length}
-use Rattle.units.specs.Rounding.{halfUp}
-use Rattle.units.specs.Fractions.{Fraction, over, plus, WithinDistance}
-use Rattle.units.proofs.Rounds.{half-up-high, half-up-low}
+use Rattle.units.specs.Fractions.{Fraction, over, plus}
 use Rattle.units.proofs.Fractions.{plus-same}
 use Rattle.classes.specs.Classes.{fuelOf}
 use Rattle.inventory.specs.declared.Head.{Head}
 use Rattle.inventory.specs.declared.Record.{Record}
 use Rattle.inventory.specs.Records.{vehicleKm}
-use Rattle.inventory.specs.Limits.{RecordLimits}
 use Rattle.inventory.specs.Order.{sumAt}
 use Rattle.inventory.specs.Adding.{kmOf}
-use Rattle.inventory.specs.Printed.{place, exactTotal, printedTotal}
-use Rattle.accuracy.specs.Reference.{weightOf, exactDenominator, exactOf, Reference, hasRoom, accepts, empty, withRecord, fed, referenceFrom, referenceOf, acceptedFrom, accepted}
-use Rattle.accuracy.specs.Claim.{allowance}
-use Rattle.accuracy.proofs.Sums.{sumOf, Apart, Each, sum-apart}
-use Rattle.accuracy.proofs.OneRecord.{headX, billionth, perKm, brings, exactIn, record-near}
+use Rattle.inventory.specs.Printed.{place, exactTotal}
+use Rattle.accuracy.specs.Reference.{exactDenominator, exactOf, Reference, hasRoom, accepts, empty, withRecord, fed, referenceFrom, referenceOf, acceptedFrom, accepted}
+use Rattle.accuracy.proofs.Sums.{sumOf}
+use Rattle.accuracy.proofs.OneRecord.{brings}
 use Rattle.accuracy.proofs.Closed.{slotSum, kmSum, closed, sum-closed}
+
+-- what a record brings to the exact numerator
+unfoldable pub exactIn : Head → ℕ → ℕ → Record → ℕ
+exactIn head fuel quantity rec = cond (eqb fuel (fuelOf (rec .class))) (exactOf head rec quantity .numerator) 0
 
 -- ---- the reference in closed form
 
@@ -79,16 +77,7 @@ module _ (head : Head) (recs : List Record) where
   reference-exact fuel quantity =
       grown head recs (empty head) .exact fuel quantity 0 refl ∙ ap (λ k. over k (exactDenominator head)) (omega arith)
 
--- ---- the distance
-
--- s billionths, rounded, from e over the denominator: half a gram is half of it
-near-by : (s e k d : ℕ) → Apart (s * (10000000 * d)) e (1500000000 * d * k)
-    → WithinDistance (halfUp s 1000000000) (over e (10000000000000000 * d)) (allowance k)
-unfolding allowance plus
-near-by s e k d h =
-    let a = mul-le-mul-right d (half-up-high s 1000000000) in
-    let b = mul-le-mul-right d (half-up-low s 1000000000 (lit< tt)) in
-    omega (arith, h, a, b)
+-- ---- the totals in closed form
 
 -- what the records bring to the four kinds
 four-sums : (xs : List ℕ) (fuel quantity : ℕ) (l : List Record)
@@ -105,12 +94,3 @@ total-closed trip xs l fuel quantity f q =
     let at : (kind : ℕ) → kind < 4 → sumAt (closed trip xs l) (place fuel quantity kind) ≡ slotSum xs l (place fuel quantity kind) =
     λ kind k. sum-closed trip xs l (place fuel quantity kind) (omega arith) in
     rw (at 0 (lit< tt), at 1 (lit< tt), at 2 (lit< tt), at 3 (lit< tt)) (four-sums xs fuel quantity l)
-
-pub closed-near : (head : Head) → 0 < weightOf head → (l : List Record) → Each RecordLimits l → (fuel quantity : ℕ) → fuel < 3 → quantity < 5
-    → WithinDistance (printedTotal (closed (head .trip) (headX head) l) fuel quantity) (over (sumOf (exactIn head fuel quantity) l) (exactDenominator head)) (allowance (kmSum l fuel))
-unfolding printedTotal kmSum
-closed-near head positive l good fuel quantity f q =
-    rw (total-closed (head .trip) (headX head) l fuel quantity f q)
-    (near-by _ _ _ _
-    (sum-apart RecordLimits (billionth head) (perKm head) (brings (headX head) fuel quantity) (exactIn head fuel quantity) (λ rec. kmOf rec fuel)
-    (record-near head positive fuel quantity q) l good))

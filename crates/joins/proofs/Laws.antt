@@ -1,0 +1,103 @@
+-- Laws of joining: what a taken join has, and what the run of both has. Assumes nothing.
+use mathlib.Core.Path.{_≡_, refl, ap}
+use mathlib.Core.Bool.{Bool, true, false, cond}
+use Prim.Native.Nat.{ℕ, _+_, _≤_, _<_}
+use native.Mathlib.Omega.{arith}
+use lib.Dec.{eqb, ltb}
+use lib.ListN.{getD}
+use borrow.Author.Tests.{eqb-true, le-ltb, lt-ltb, ltb-false, not-false}
+use Rattle.units.specs.Grounds.{firstFit}
+use Rattle.units.proofs.Grounds.{NoneFits, passed}
+use Rattle.units.proofs.Tab.{tab-at}
+use Rattle.inventory.specs.declared.Run.{Run}
+use Rattle.inventory.specs.Order.{inOrder, sameHead, gramsIn, restIn, kmIn, sumAt}
+use Rattle.inventory.proofs.Kept.{value, rest-small}
+use Rattle.inventory.proofs.Order.{trip-of, x-of, sum-most, km-of, order-by}
+use Rattle.joins.specs.Joining.{joinGrounds, joinNumber, slotJoined, gramsJoined, restJoined, kmJoined, joined, joinRun}
+
+-- ---- the number of a join, test by test
+
+module _ (a b : Run) where
+  pub first-unordered : inOrder a ≡ false → 16 ≡ joinNumber a b
+  unfolding joinNumber joinGrounds firstFit
+  first-unordered o = rw o
+
+  module _ (o : inOrder a ≡ true) where
+    pub second-unordered : inOrder b ≡ false → 16 ≡ joinNumber a b
+    unfolding joinNumber joinGrounds firstFit
+    second-unordered p = rw (o, p)
+
+    module _ (p : inOrder b ≡ true) where
+      pub heads-differ : sameHead a b ≡ false → 21 ≡ joinNumber a b
+      unfolding joinNumber joinGrounds firstFit
+      heads-differ s = rw (o, p, s)
+
+      pub counted : sameHead a b ≡ true → cond (ltb 5000 (a .count + b .count)) 22 0 ≡ joinNumber a b
+      unfolding joinNumber joinGrounds firstFit
+      counted s = rw (o, p, s)
+
+      pub too-many : sameHead a b ≡ true → 5000 < a .count + b .count → 22 ≡ joinNumber a b
+      too-many s h = let e : ltb 5000 (a .count + b .count) ≡ true = lt-ltb _ _ h in rw e at (counted s)
+
+      pub good-join : sameHead a b ≡ true → a .count + b .count ≤ 5000 → 0 ≡ joinNumber a b
+      good-join s h = let e : ltb 5000 (a .count + b .count) ≡ false = le-ltb _ _ h in rw e at (counted s)
+
+  -- what a join has that is taken
+  pub record Taken : Type 0 where
+    pub first : inOrder a ≡ true
+    pub second : inOrder b ≡ true
+    pub same : sameHead a b ≡ true
+    pub few : a .count + b .count ≤ 5000
+
+  pub taken : joinNumber a b ≡ 0 → Taken
+  unfolding joinNumber joinGrounds
+  taken z =
+      let p : NoneFits (joinGrounds a b) = passed (joinGrounds a b) tt z in
+      record {
+        first = not-false (inOrder a) (p .0);
+        second = not-false (inOrder b) (p .1 .0);
+        same = not-false (sameHead a b) (p .1 .1 .0);
+        few = ltb-false 5000 (a .count + b .count) (p .1 .1 .1 .0);
+      }
+
+  pub run-kept : (n : ℕ) → n ≡ joinNumber a b → eqb n 0 ≡ false → a ≡ joinRun a b
+  unfolding joinRun
+  run-kept n e h = rw (← e, h)
+
+  pub run-joined : joinNumber a b ≡ 0 → joined a b ≡ joinRun a b
+  unfolding joinRun
+  run-joined e = rw e
+
+-- ---- the run of both
+
+module _ (a b : Run) where
+  pub km-in : (fuel : ℕ) → fuel < 3 → kmIn (joined a b) fuel ≡ kmIn a fuel + kmIn b fuel
+  unfolding joined kmJoined
+  km-in fuel h = ap (λ v. v .0) (tab-at (record { 0 = 0 }) (kmJoined a b) 3 fuel h)
+
+  rest-in : (j : ℕ) → j < 60 → restIn (joined a b) j ≡ slotJoined a b j .rest
+  unfolding joined
+  rest-in j h = tab-at 0 (restJoined a b) 60 j h
+
+  pub sum-in : (j : ℕ) → j < 60 → sumAt (joined a b) j ≡ sumAt a j + sumAt b j
+  unfolding sumAt joined slotJoined
+  sum-in j h =
+      let g : gramsIn (joined a b) j ≡ slotJoined a b j .grams .0 = ap (λ g. g .0) (tab-at (record { 0 = 0 }) (gramsJoined a b) 60 j h) in
+      rw (g, rest-in j h) (value _)
+
+  pub order-joined : inOrder a ≡ true → inOrder b ≡ true → a .count + b .count ≤ 5000 → inOrder (joined a b) ≡ true
+  unfolding joined slotJoined
+  order-joined o p few =
+      order-by (joined a b) (trip-of a o .0) (trip-of a o .1) few (x-of a o)
+      (λ j h. rw (rest-in j h) (rest-small _))
+      (λ j h. omega (arith, sum-in j h, sum-most a o j h, sum-most b p j h))
+      (λ f h. omega (arith, km-in f h, km-of a o f h, km-of b p f h))
+
+  -- a refused join is the first run: what both have, the joined has
+  pub order-kept : inOrder a ≡ true → inOrder (joinRun a b) ≡ true
+  unfolding joinRun
+  order-kept o = by (eqb (joinNumber a b) 0) refl
+    where
+      by : (t : Bool) → eqb (joinNumber a b) 0 ≡ t → inOrder (cond t (joined a b) a) ≡ true
+      by true e = let z = taken a b (eqb-true _ 0 e) in order-joined o (z .second) (z .few)
+      by false e = o
