@@ -1,19 +1,21 @@
 -- Laws of joining: what a taken join has, and what the run of both has. Assumes nothing.
-use mathlib.Core.Path.{_≡_, refl, ap}
+use mathlib.Core.Path.{_≡_, refl, ap, sym}
 use mathlib.Core.Bool.{Bool, true, false, cond}
-use Prim.Native.Nat.{ℕ, _+_, _≤_, _<_}
+use Prim.Native.Nat.{ℕ, zero, suc, _+_, _≤_, _<_}
 use native.Mathlib.Omega.{arith}
 use lib.Dec.{eqb, ltb}
-use lib.ListN.{getD}
 use borrow.Author.Tests.{eqb-true, le-ltb, lt-ltb, ltb-false, not-false}
 use Rattle.units.specs.Grounds.{firstFit}
+use Rattle.units.specs.Lists.{sumTo}
 use Rattle.units.proofs.Grounds.{NoneFits, passed}
+use Rattle.units.proofs.Sums.{fewer-terms}
 use Rattle.units.proofs.Tab.{tab-at}
 use Rattle.inventory.specs.declared.Run.{Run}
 use Rattle.inventory.specs.Order.{inOrder, sameHead, gramsIn, restIn, kmIn, sumAt}
+use Rattle.inventory.proofs.Heads.{trip-same, x-same, head-by, head-self, head-back, head-on}
 use Rattle.inventory.proofs.Kept.{value, rest-small}
 use Rattle.inventory.proofs.Order.{trip-of, x-of, sum-most, km-of, order-by}
-use Rattle.joins.specs.Joining.{joinGrounds, joinNumber, slotJoined, gramsJoined, restJoined, kmJoined, joined, joinRun}
+use Rattle.joins.specs.Joining.{joinGrounds, joinNumber, slotJoined, gramsJoined, restJoined, kmJoined, joined, joinRun, joinedTo}
 
 -- ---- the number of a join, test by test
 
@@ -101,3 +103,42 @@ module _ (a b : Run) where
       by : (t : Bool) → eqb (joinNumber a b) 0 ≡ t → inOrder (cond t (joined a b) a) ≡ true
       by true e = let z = taken a b (eqb-true _ 0 e) in order-joined o (z .second) (z .few)
       by false e = o
+
+  pub head-joined : (c : Run) → sameHead a c ≡ true → sameHead (joined a b) c ≡ true
+  unfolding joined
+  head-joined c s = head-by (joined a b) c (trip-same a c s) (x-same a c s)
+
+-- ---- many runs of one L and X, together at most 5,000 records: no join is refused
+
+-- what the runs joined so far have
+pub record Several (runs : ℕ → Run) (n : ℕ) (run : Run) : Type 0 where
+  pub order : inOrder run ≡ true
+  pub head : sameHead (runs 0) run ≡ true
+  pub count : run .count ≡ sumTo (λ i. runs i .count) (suc n)
+
+module _ (runs : ℕ → Run) (m : ℕ) (order : (i : ℕ) → i ≤ m → inOrder (runs i) ≡ true) (heads : (i : ℕ) → i ≤ m → sameHead (runs 0) (runs i) ≡ true)
+  (few : sumTo (λ i. runs i .count) (suc m) ≤ 5000) where
+
+  next-taken : (n : ℕ) (run : Run) → n < m → Several runs n run → joinNumber run (runs (suc n)) ≡ 0
+  unfolding sumTo
+  next-taken n run h s =
+      let most : sumTo (λ i. runs i .count) (suc (suc n)) ≤ 5000 = omega (arith, fewer-terms (λ i. runs i .count) (suc (suc n)) (suc m) (omega arith), few) in
+      sym (good-join run (runs (suc n)) (s .order) (order (suc n) (omega arith))
+      (head-on run (runs 0) (runs (suc n)) (head-back (runs 0) run (s .head)) (heads (suc n) (omega arith))) (omega (arith, most, s .count)))
+
+  pub several : (n : ℕ) → n ≤ m → Several runs n (joinedTo runs n)
+  unfolding joinedTo sumTo joined
+  several zero h = record { order = order 0 (omega arith); head = head-self (runs 0); count = omega arith }
+  several (suc n) h =
+      let s = several n (omega arith) in
+      let z = next-taken n (joinedTo runs n) (omega arith) s in
+      let t = taken (joinedTo runs n) (runs (suc n)) z in
+      rw (← run-joined (joinedTo runs n) (runs (suc n)) z)
+      (record {
+        order = order-joined (joinedTo runs n) (runs (suc n)) (t .first) (t .second) (t .few);
+        head = head-back _ _ (head-joined (joinedTo runs n) (runs (suc n)) (runs 0) (head-back _ _ (s .head)));
+        count = ap (λ k. k + runs (suc n) .count) (s .count);
+      })
+
+  pub all-taken : (n : ℕ) → n < m → joinNumber (joinedTo runs n) (runs (suc n)) ≡ 0
+  all-taken n h = next-taken n (joinedTo runs n) h (several n (omega arith))

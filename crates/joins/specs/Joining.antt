@@ -1,6 +1,6 @@
 -- Joining two runs (SPECIFICATION, "Joining"; document 02, job 6).
 -- Assumes nothing.
-use Prim.Native.Nat.{ℕ, _+_}
+use Prim.Native.Nat.{ℕ, zero, suc, _+_}
 use mathlib.Core.Bool.{not, cond}
 use mathlib.Core.List.{List, [], _∷_}
 use lib.Dec.{eqb, ltb}
@@ -51,3 +51,8 @@ joined a b =
 -- the run that joining gives back: the first where the join is refused
 unfoldable pub joinRun : Run → Run → Run
 joinRun a b = cond (eqb (joinNumber a b) 0) (joined a b) a
+
+-- the runs 0 to n joined in order, each to what the one before it gave back
+unfoldable pub joinedTo : (ℕ → Run) → ℕ → Run
+joinedTo runs zero = runs 0
+joinedTo runs (suc n) = joinRun (joinedTo runs n) (runs (suc n))
