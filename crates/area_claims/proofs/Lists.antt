@@ -35,6 +35,7 @@ use Rattle.area_claims.specs.Claim.{numbersAfter, AreasAfter, SameAccept
 use Rattle.area_claims.proofs.OneAdd.{asks-number, add-number, below-own, takes-in, accepts-low, accepts-own, accepts-few, accepts-alike, number-alike}
 use Rattle.area_claims.proofs.Kept.{here, there, count-next, shaped-next, order-next}
 use Rattle.area_claims.proofs.Zeros.{zeros-left}
+use Rattle.area_claims.proofs.Joined.{joined-areas}
 use Rattle.area_claims.proofs.References.{room-own, entered, passed-by, references-are, all-accepted}
 
 -- ---- one add on numbers in order
@@ -238,6 +239,9 @@ module _ (head : Head) (taken : openNumber head ≡ 0) where
           runs-number = asks-number last (after-adds .ordered);
           run = run-is;
           each = each;
+          reference = λ i h. references-are head adds i;
+          joined =
+              joined-areas head taken (λ i. acceptedIn i adds) last (after-adds .ordered) run-is (referencesOf head adds) (λ i h. references-are head adds i);
         }
 
   reordered : (adds others : List AreaAdd) (i : ℕ) → i < 16 → SameAcceptedIn i adds others → SameReport (areaRun (numbersAfter fresh adds) i) (areaRun (numbersAfter fresh others) i)

@@ -14,10 +14,11 @@ use Rattle.areas.specs.Areas.{countsOf}
 use Rattle.areas.specs.Numbers.{areasOf}
 use Rattle.areas.specs.Calls.{numbersInOrder, openAreasNumber, openAreasNumbers, addAreaNumber, addAreaNumbers, areaRunNumber, areaRun}
 use Rattle.accuracy.specs.Conditions.{openingNumber}
-use Rattle.accuracy.specs.Reference.{Reference, acceptable, occurs}
+use Rattle.joins.specs.Joining.{joinedTo}
+use Rattle.accuracy.specs.Reference.{Reference, referenceOf, acceptable, occurs}
 use Rattle.accuracy.specs.Claim.{runAfter, ListClaim, SameReport}
 use Rattle.area_claims.specs.Conditions.{noArea, areaRecordNumber}
-use Rattle.area_claims.specs.References.{AreaAdd, acceptsIn, countsIn, referencesOf, acceptedIn}
+use Rattle.area_claims.specs.References.{AreaAdd, acceptsIn, countsIn, referencesOf, acceptedIn, togetherTo}
 
 -- the numbers after a list of adds, each on the numbers that the one before it left, refused or not
 unfoldable pub numbersAfter : List ℕ → List AreaAdd → List ℕ
@@ -38,6 +39,10 @@ pub record AreasAfter (head : Head) (adds : List AreaAdd) (numbers : List ℕ) (
   pub run : (i : ℕ) → i < 16 → areaRun numbers i ≡ runAfter (openRun head) (acceptedIn i adds)
   -- so all that is claimed of single runs holds of it, with the area's own reference: count, kilometres, distance
   pub each : (i : ℕ) → i < 16 → ListClaim (areaRun numbers i) (references i)
+  -- and that reference is the single run's: the run of an area is the run of a history, to be joined as any other
+  pub reference : (i : ℕ) → i < 16 → references i ≡ referenceOf head (acceptedIn i adds)
+  -- the same holds of the runs of the areas 0 to n joined in order, none refused, with their references added up
+  pub joined : (n : ℕ) → n < 16 → ListClaim (joinedTo (areaRun numbers) n) (togetherTo references n)
 
 -- each record occurs equally often among the accepted ones of an area in both lists
 abbrev pub SameAcceptedIn : ℕ → List AreaAdd → List AreaAdd → Type 0

@@ -1,13 +1,14 @@
 -- Sixteen reference inventories (SPECIFICATION, "Areas"; the request's tallies), one for each area, fed a head and then the areas'
 -- numbers and records, never an answer.
 -- Assumes nothing.
-use Prim.Native.Nat.{ℕ, _+_}
+use Prim.Native.Nat.{ℕ, zero, suc, _+_}
 use mathlib.Core.Bool.{Bool, not, cond, _&&_}
 use mathlib.Core.List.{List, [], _∷_}
 use lib.Dec.{eqb}
 use Rattle.inventory.specs.declared.Head.{Head}
 use Rattle.inventory.specs.declared.Record.{Record}
 use Rattle.accuracy.specs.Reference.{Reference, empty, accepts, withRecord}
+use Rattle.accuracy.specs.History.{together}
 use Rattle.area_claims.specs.Conditions.{noArea, fullArea}
 
 -- an add of a list: the area asked for, which may be above 15, and the record
@@ -50,3 +51,8 @@ acceptedInFrom i counts (add ∷ adds) =
 
 unfoldable pub acceptedIn : ℕ → List AreaAdd → List Record
 acceptedIn i adds = acceptedInFrom i (λ j. 0) adds
+
+-- the references of the areas 0 to n, added up
+unfoldable pub togetherTo : (ℕ → Reference) → ℕ → Reference
+togetherTo ts zero = ts 0
+togetherTo ts (suc n) = together (togetherTo ts n) (ts (suc n))

@@ -5,7 +5,7 @@ use mathlib.Core.List.{List}
 use Prim.Native.Nat.{ℕ, suc, _+_, _≤_, _<_}
 use native.Mathlib.Nat.{add-comm, add-assoc}
 use native.Mathlib.Omega.{arith}
-use borrow.Author.Tests.{le-ltb, ne-eqb}
+use borrow.Author.Tests.{ne-eqb}
 use lib.Dec.{eqb, ltb}
 use lib.ListN.{getD}
 use lib.Seq.{ext-getD}
@@ -24,7 +24,8 @@ use Rattle.inventory.proofs.Order.{rest-of, count-of}
 use Rattle.inventory.proofs.Runs.{by-parts, as-km, as-grams, shaped-opened}
 use Rattle.areas.specs.Areas.{countsOf}
 use Rattle.areas.specs.Numbers.{areasOf}
-use Rattle.areas.specs.Calls.{numbersInOrder, areaRunNumber, areaRun}
+use Rattle.areas.specs.Calls.{numbersInOrder, areaRun}
+use Rattle.areas.proofs.Adding.{run-given}
 use Rattle.areas.proofs.Order.{run-ok, head-ok, records-most, areas-ok}
 use Rattle.joins.specs.Joining.{joinGrounds, joinNumber, slotJoined, gramsJoined, restJoined, kmJoined, joined, joinRun, joinedTo}
 use Rattle.joins.proofs.Laws.{counted, good-join, Taken, taken, run-kept, run-joined, km-in, sum-in, order-joined, order-kept, head-joined, all-taken}
@@ -182,8 +183,7 @@ shaped-join a b s = by (eqb (joinNumber a b) 0)
 
 module _ (numbers : List ℕ) (order : numbersInOrder numbers ≡ true) where
   area-run : (i : ℕ) → i < 16 → areaRun numbers i ≡ areasOf numbers .runs i
-  unfolding areaRun areaRunNumber firstFit
-  area-run i h = rw (order, le-ltb 15 i (omega arith))
+  area-run i h = sym (run-given numbers i order (omega arith) .1)
 
   of-areas : (n : ℕ) → n < 15 → joinNumber (joinedTo (areaRun numbers) n) (areaRun numbers (suc n)) ≡ 0
   of-areas =
