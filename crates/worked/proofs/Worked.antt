@@ -33,7 +33,7 @@ use Rattle.accuracy.proofs.Whole.{after, every-list}
 use Rattle.worked.specs.Worked.{many, WorkedClaim}
 use Rattle.worked.proofs.Closed.{exactIn, reference-count, reference-km, reference-exact, total-closed}
 
-many-length : (n : ℕ) → length (many n) ≡ n
+pub many-length : (n : ℕ) → length (many n) ≡ n
 many-length zero = refl
 many-length (suc n) = rw (many-length n)
 
@@ -42,12 +42,12 @@ unfolding sumOf
 many-sum g zero = omega arith
 many-sum g (suc n) = omega (arith, many-sum g n)
 
-many-accepted : (n k : ℕ) → k + n ≤ 5000 → acceptedFrom k (many n) ≡ many n
+pub many-accepted : (n k : ℕ) → k + n ≤ 5000 → acceptedFrom k (many n) ≡ many n
 unfolding acceptedFrom accepts hasRoom acceptable firstFit recordGrounds outside vehicleKm sharesWrong speedsWrong
 many-accepted zero k h = refl
 many-accepted (suc n) k h = rw (lt-ltb k 5000 (omega arith), many-accepted n (k + 1) (omega arith))
 
-taken : openNumber exampleHead ≡ 0
+pub taken : openNumber exampleHead ≡ 0
 unfolding tab allBelow outside firstFit temperatureOk periodGrounds temperaturesWrong headGrounds openNumber
 taken = refl
 
