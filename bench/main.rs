@@ -5,17 +5,20 @@
 //!     bench [PASSES]
 //!     bench --rows     one pass, as lines `name, archive, (a), (b)` between tabs, for bench/against.py
 //!
-//! With `--cfg no_days` it is linked with an archive up to layout 5, whose heads have no dates: the declarations are others
-//! (bench/run.sh makes them), and the row of dated heads is left out. With `--cfg no_digits` as well it is one up to layout 4, in
-//! whose balances the digits worked are not told: they are not compared. With `--cfg no_areas` as well it is one up to layout 3,
-//! which has no calls of areas: their rows are left out. With `--cfg layout_2` as well it is one of layout 2, in whose runs CO of
-//! class 3 has no X of its own: what goes by that X is not compared.
+//! With `--cfg no_join` it is linked with an archive that has no haldurap_join: the rows of joins are left out. With `--cfg
+//! no_days` as well it is one up to layout 5, whose heads have no dates: the declarations are others (bench/run.sh makes them), and
+//! the row of dated heads is left out. With `--cfg no_digits` as well it is one up to layout 4, in whose balances the digits worked
+//! are not told: they are not compared. With `--cfg no_areas` as well it is one up to layout 3, which has no calls of areas: their
+//! rows are left out. With `--cfg layout_2` as well it is one of layout 2, in whose runs CO of class 3 has no X of its own: what
+//! goes by that X is not compared.
 #[cfg(not(no_areas))]
 mod areas;
 mod balances;
 #[cfg_attr(not(no_days), path = "../include/haldurap.rs")]
 #[cfg_attr(no_days, path = "../target/haldurap_other.rs")]
 mod haldurap;
+#[cfg(not(no_join))]
+mod joins;
 #[path = "../tests/differential/random.rs"]
 mod random;
 #[path = "../tests/differential/reference.rs"]
@@ -375,7 +378,7 @@ fn keep<const N: usize>(kept: &mut [f64; N], times: [f64; N]) {
 const LENGTHS: [usize; 10] = [0, 1, 10, 50, 100, 200, 400, 800, 1200, 1596];
 
 /// The best times: of sheets by length, adds by position, the first add, a total, a report, opening without and with dates, the
-/// test of order, a record of a list, balances by digits, the calls of areas.
+/// test of order, a record of a list, balances by digits, joins, the calls of areas.
 struct Best {
     sheets: [[f64; 3]; LENGTHS.len()],
     adds: [[f64; 10]; 3],
@@ -388,6 +391,8 @@ struct Best {
     order: [f64; 3],
     list: [f64; 3],
     balances: balances::Best,
+    #[cfg(not(no_join))]
+    joins: joins::Best,
     #[cfg(not(no_areas))]
     areas: areas::Best,
 }
@@ -411,6 +416,8 @@ impl Best {
         #[cfg(not(no_days))]
         rows.insert(8, row("opening, dated", self.dated));
         rows.extend(self.balances.rows());
+        #[cfg(not(no_join))]
+        rows.extend(self.joins.rows());
         #[cfg(not(no_areas))]
         rows.extend(self.areas.rows());
         rows
@@ -485,6 +492,8 @@ fn pass(best_of: &mut Best, inputs: &Inputs, runs: &(c::Run, plain::Run, tuned::
     keep(&mut best_of.list, times.map(|t| t / 5000.0));
 
     best_of.balances.pass(runs, repetitions);
+    #[cfg(not(no_join))]
+    best_of.joins.pass(inputs, repetitions);
     #[cfg(not(no_areas))]
     best_of.areas.pass(inputs, repetitions);
 }
@@ -514,6 +523,8 @@ fn main() {
         order: [f64::MAX; 3],
         list: [f64::MAX; 3],
         balances: balances::Best::new(),
+        #[cfg(not(no_join))]
+        joins: joins::Best::new(),
         #[cfg(not(no_areas))]
         areas: areas::Best::new(),
     };

@@ -22,9 +22,10 @@ case $layout in
 [2-6]) ;;
 *) echo "$other has layout $layout; only 2 to 6 can be compared"; exit 1 ;;
 esac
-# what an earlier one does not have: up to layout 5 the days of a head, up to 4 the digits of a balance, up to 3 areas, and in a run
-# of layout 2 x[15]
+# what an earlier one does not have: haldurap_join, which came without another layout; up to layout 5 the days of a head, up to 4 the
+# digits of a balance, up to 3 areas, and in a run of layout 2 x[15]
 cfgs=() edits=()
+nm "$other" | grep ' T haldurap_join$' > /dev/null || cfgs+=(--cfg no_join)
 if [ "$layout" -le 5 ]; then
     cfgs+=(--cfg no_days) edits+=(-e 's/, pub first: u64, pub last: u64 }/ }/')
 fi

@@ -312,6 +312,58 @@ pub fn add_list(head: &Head, numbers: &[u64], run: &mut Run) -> (u64, u64, usize
     (0, taken, place, refused)
 }
 
+/// The order of a run to be joined: X and sums in one pass each by `or`, one by one only where that does not decide.
+#[inline]
+fn joinable(run: &Run) -> bool {
+    // an X moved so that 4,900,000,001 comes to 2^33; `or` keeps any bit from there on, and those of an X that wraps
+    let mut wide = 0;
+    for &x in &run.x {
+        wide |= x | x.wrapping_add((1 << 33) - 4_900_000_001);
+    }
+    let most = BILLION * run.count;
+    run.trip.wrapping_sub(10) <= 190
+        && run.count <= 5000
+        && wide < 1 << 33
+        && (run.km[0] <= most) & (run.km[1] <= most) & (run.km[2] <= most)
+        && area_sums_in_order(run)
+}
+
+/// Joins two runs into a third, which is the first where it is refused.
+#[inline]
+pub fn join(first: &Run, second: &Run, to: &mut Run) -> u64 {
+    let mut differ = first.trip ^ second.trip;
+    for i in 0..16 {
+        differ |= first.x[i] ^ second.x[i];
+    }
+    let number = if !joinable(first) || !joinable(second) {
+        16
+    } else if differ != 0 {
+        21
+    } else if first.count + second.count > 5000 {
+        22
+    } else {
+        0
+    };
+    if number != 0 {
+        *to = first.clone();
+        return number;
+    }
+    to.trip = first.trip;
+    to.x = first.x;
+    to.count = first.count + second.count;
+    for f in 0..3 {
+        to.km[f] = first.km[f] + second.km[f];
+    }
+    for j in 0..60 {
+        // two rests are below 2^31: moved so that 10^9 comes to 2^30, the next bit is the carry
+        let s = first.rests[j] + second.rests[j];
+        let carry = (s + ((1 << 30) - BILLION)) >> 30;
+        to.grams[j] = first.grams[j] + second.grams[j] + carry;
+        to.rests[j] = s - carry * BILLION;
+    }
+    0
+}
+
 /// Opens all areas in place; a refused head leaves zeros.
 pub fn open_areas(head: &Head, areas: &mut Areas) -> u64 {
     *areas = Areas { runs: [ZERO; 16], common: 0 };

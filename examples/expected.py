@@ -34,6 +34,10 @@ print("from a sheet: the same")
 number, taken, place, refused, listed = reference.add_list(HEAD, numbers(FLEET))
 assert (number, place, refused) == (0, 0, 0) and vars(listed) == vars(run)
 print("from a list: %d taken, the same" % taken)
+one, others = (reference.add_list(HEAD, numbers(fleet))[-1] for fleet in (FLEET[:1], FLEET[1:]))
+number, joined = reference.join(one, others)
+assert number == 0 and vars(joined) == vars(run)
+print("from two crews: %d and %d records, joined the same" % (one.count, others.count))
 for fuel, sold in ((1, 1000), (2, 4400), (3, 210)):
     for quantity in reference.QUANTITIES:
         number, k, digits, grams = reference.balance(run, fuel, quantity, sold)
@@ -52,3 +56,5 @@ number, taken, place, refused, listed = reference.add_list(HEAD, numbers(WRONG))
 assert number == 0
 print("131 km/h in a list: %d taken, the first refused at place %d with %d" % (taken, place, refused))
 print("131 km/h in a sheet: refused with %d at line %d" % reference.sheet_text(sheet(WRONG))[:2])
+number, joined = reference.join(run, reference.open_run(PASS)[1])
+print("joined with a run of the pass: refused with %d, records: %d" % (number, joined.count))

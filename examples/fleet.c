@@ -1,5 +1,5 @@
-/* Opens a run, adds a fleet, prints the report, the same from a sheet and from a list, balances it against sold fuel, and asks for a
-   part of a year.
+/* Opens a run, adds a fleet, prints the report, the same from a sheet, from a list and from two halves joined, balances it against
+   sold fuel, and asks for a part of a year.
    Build it with examples/run.sh, or:
        gcc -O2 -Wall -Iinclude -o target/fleet_c examples/fleet.c target/libhaldurap.a */
 #include <inttypes.h>
@@ -91,6 +91,15 @@ int main(void) {
     stop_if(listed.number, "add_list");
     printf("from a list: %" PRIu64 " taken, %s\n", listed.taken, memcmp(&listed.run, &run, sizeof run) == 0 ? "the same" : "another run");
 
+    /* And by two crews, each with its own run under the same head: the first has one record, the second the others. */
+    haldurap_list_answer one = haldurap_add_list(head, (const uint64_t *)fleet, HALDURAP_RECORD_NUMBERS);
+    haldurap_list_answer others = haldurap_add_list(head, (const uint64_t *)(fleet + 1), (PARTS - 1) * HALDURAP_RECORD_NUMBERS);
+    stop_if(one.number, "add_list"), stop_if(others.number, "add_list");
+    haldurap_run_answer joined = haldurap_join(one.run, others.run);
+    stop_if(joined.number, "join");
+    printf("from two crews: %" PRIu64 " and %" PRIu64 " records, joined %s\n", one.run.count, others.run.count,
+           memcmp(&joined.run, &run, sizeof run) == 0 ? "the same" : "another run");
+
     for (uint64_t fuel = HALDURAP_GASOLINE; fuel <= HALDURAP_LPG; fuel++) {
         for (uint64_t quantity = HALDURAP_CO; quantity <= HALDURAP_FC; quantity++) {
             haldurap_balance_answer b = haldurap_balance(run, fuel, quantity, sold[fuel - 1]);
@@ -127,5 +136,11 @@ int main(void) {
     stop_if(read.number, "report_sheet");
     if (read.sheet_number != HALDURAP_TAKEN)
         printf("131 km/h in a sheet: refused with %" PRIu64 " at line %zu\n", read.sheet_number, read.sheet_line);
+
+    /* Runs of other trip lengths or temperatures are not joined: the first comes back. */
+    haldurap_run_answer other = haldurap_open(pass);
+    stop_if(other.number, "open");
+    joined = haldurap_join(run, other.run);
+    printf("joined with a run of the pass: refused with %" PRIu64 ", records: %" PRIu64 "\n", joined.number, joined.run.count);
     return 0;
 }

@@ -1,5 +1,5 @@
-"""Opens a run, adds a fleet, prints the report, the same from a sheet and from a list, balances it against sold fuel, and asks for a
-part of a year: python3 examples/fleet.py."""
+"""Opens a run, adds a fleet, prints the report, the same from a sheet, from a list and from two halves joined, balances it against
+sold fuel, and asks for a part of a year: python3 examples/fleet.py."""
 import sys
 
 import haldurap
@@ -44,6 +44,10 @@ def main():
     # And as a list.
     listed = haldurap.add_list(HEAD, FLEET)
     print("from a list: %d taken, %s" % (listed.taken, "the same" if bytes(listed.run) == bytes(run) else "another run"))
+    # And by two crews, each with its own run under the same head: the first has one record, the second the others.
+    one, others = haldurap.add_list(HEAD, FLEET[:1]).run, haldurap.add_list(HEAD, FLEET[1:]).run
+    same = bytes(haldurap.join(one, others)) == bytes(run)
+    print("from two crews: %d and %d records, joined %s" % (one.count, others.count, "the same" if same else "another run"))
     for fuel, sold in SOLD.items():
         for name, quantity in zip(NAMES, haldurap.QUANTITIES):
             b = haldurap.balance(run, fuel, quantity, sold)
@@ -56,7 +60,8 @@ def main():
     # dates by those of all months.
     temps = [-78, -75, -48, -14, 36, 72, 98, 95, 61, 22, -34, -65]
     print("CO from cold starts, 15 May to 20 October 2026: %d g" % cold_co(haldurap.head(186, temps, 20260515, 20261020)))
-    print("CO from cold starts, without dates: %d g" % cold_co(haldurap.head(186, temps)))
+    mountain_pass = haldurap.head(186, temps)
+    print("CO from cold starts, without dates: %d g" % cold_co(mountain_pass))
     # A refused add raises Refused and leaves the run as it was, a list passes the record over, a sheet is sent back.
     wrong = [FLEET[0], haldurap.record(6, 2500, 18000, (30, 45, 25), (25, 70, 131)), FLEET[2]]
     try:
@@ -68,6 +73,11 @@ def main():
     read = haldurap.report_sheet(sheet(wrong))
     if read.number != haldurap.TAKEN:
         print("131 km/h in a sheet: refused with %d at line %d" % (read.number, read.line))
+    # Runs of other trip lengths or temperatures are not joined.
+    try:
+        haldurap.join(run, haldurap.open_run(mountain_pass))
+    except haldurap.Refused as refused:
+        print("joined with a run of the pass: refused with %d, records: %d" % (refused.number, run.count))
 
 
 if __name__ == "__main__":

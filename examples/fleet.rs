@@ -1,5 +1,5 @@
-//! Opens a run, adds a fleet, prints the report, the same from a sheet and from a list, balances it against sold fuel, and asks for a
-//! part of a year.
+//! Opens a run, adds a fleet, prints the report, the same from a sheet, from a list and from two halves joined, balances it against
+//! sold fuel, and asks for a part of a year.
 //! Build it with examples/run.sh, or:
 //!     rustc --edition 2024 -O -o target/fleet_rust examples/fleet.rs -C link-arg=target/libhaldurap.a
 #[path = "../include/haldurap.rs"]
@@ -87,6 +87,13 @@ fn main() -> Result<(), String> {
     let same = taken(listed.number, listed.run == run)?;
     println!("from a list: {} taken, {}", listed.taken, if same { "the same" } else { "another run" });
 
+    // And by two crews, each with its own run under the same head: the first has one record, the second the others.
+    let (one, others) = (add_list(head, &list_of(&fleet[..1])), add_list(head, &list_of(&fleet[1..])));
+    let halves = (taken(one.number, one.run)?, taken(others.number, others.run)?);
+    let joined = haldurap_join(halves.0, halves.1);
+    let same = taken(joined.number, joined.run == run)?;
+    println!("from two crews: {} and {} records, joined {}", halves.0.count, halves.1.count, if same { "the same" } else { "another run" });
+
     for fuel in GASOLINE..=LPG {
         let sold = SOLD[fuel as usize - 1];
         for (name, quantity) in NAMES.iter().zip(CO..) {
@@ -123,5 +130,10 @@ fn main() -> Result<(), String> {
     if read.sheet_number != TAKEN {
         println!("131 km/h in a sheet: refused with {} at line {}", read.sheet_number, read.sheet_line);
     }
+
+    // Runs of other trip lengths or temperatures are not joined: the first comes back.
+    let other = haldurap_open(pass);
+    let joined = haldurap_join(run, taken(other.number, other.run)?);
+    println!("joined with a run of the pass: refused with {}, records: {}", joined.number, joined.run.count);
     Ok(())
 }

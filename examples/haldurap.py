@@ -34,7 +34,8 @@ CO, NOX, VOC, PM, FC = QUANTITIES = (1, 2, 3, 4, 5)
 KINDS = ("urban", "rural", "highway", "cold")
 ROADS = KINDS[:3]
 (TAKEN, TRIP_LENGTH, TEMPERATURE, CLASS, VEHICLES, KILOMETRES, DISTANCE, SHARES, SPEED, FULL, LINE_SHAPE, FUEL_OR_QUANTITY,
- NO_FUEL_USED, SOLD_FUEL, SHORT_BUFFER, FUEL_CONTENT, RUN_ORDER, NO_AREA, FULL_AREA, NO_DAY, DAY_ORDER) = range(21)
+ NO_FUEL_USED, SOLD_FUEL, SHORT_BUFFER, FUEL_CONTENT, RUN_ORDER, NO_AREA, FULL_AREA, NO_DAY, DAY_ORDER, HEADS_DIFFER,
+ FULL_TOGETHER) = range(23)
 
 # What each number means, and what to do about it.
 MEANINGS = {
@@ -55,8 +56,8 @@ MEANINGS = {
                " for what the fleet or the sales leave out",
     SHORT_BUFFER: "the buffer is shorter than the text; 1,455 bytes are always enough",
     FUEL_CONTENT: "hydrogen per carbon is over 4,000 thousandths, sulphur over 10,000 ppm or lead over 1,000 ppm",
-    RUN_ORDER: "the run or the areas are not in order: never opened, or damaged, or runs of several heads put into areas; take runs"
-               " from open_run, add, add_list, sheet and area_run alone, areas from open_areas, and change areas by add_area alone",
+    RUN_ORDER: "a run or the areas are not in order: never opened, or damaged, or runs of several heads put into areas; take runs"
+               " from open_run, add, join, add_list, sheet and area_run alone, areas from open_areas, and change areas by add_area alone",
     NO_AREA: "the area is not 0 to 15; areas are numbered from 0, and sixteen stand under one head",
     FULL_AREA: "the area has 300 records or more, and the 200 that all areas share are used; add the rest of this area to a run of"
                " its own (open_run), and add up the figures",
@@ -64,6 +65,10 @@ MEANINGS = {
             " + day (15 May 2026 is 20260515), or leave both out for a head without dates",
     DAY_ORDER: "the last day of the period is before the first, or in another year; give the first day first, and split a period"
                " over the turn of a year into two runs, and add up the figures",
+    HEADS_DIFFER: "the trip length or a cold-start value X of the two runs differs; open both with the same head before records are"
+                  " added, or keep them apart and add up the figures",
+    FULL_TOGETHER: "the two runs have more than 5,000 records together, and one run takes no more; keep them apart, and add up the"
+                   " figures",
 }
 
 
@@ -271,6 +276,7 @@ _CALLS = {
     "layout": ([], LayoutAnswer),
     "open": ([Head], RunAnswer),
     "add": ([Run, Record], RunAnswer),
+    "join": ([Run, Run], RunAnswer),
     "add_list": ([Head, POINTER(c_uint64), c_size_t], ListAnswer),
     "in_order": ([Run], c_uint64),
     "open_areas": ([_AREAS, c_size_t, Head], c_uint64),
@@ -349,6 +355,13 @@ def open_run(a_head):
 def add(run, a_record):
     """The run with the record; the run handed in stays as it is. Refuses 16, 3 to 9."""
     return _taken(_call("add")(_of("run", run, Run), _of("a_record", a_record, Record))).run
+
+
+def join(first, second):
+    """One run of both: count, kilometres and sums added up; the runs handed in stay as they are. L and all X must agree, as of runs
+    under one head. The runs of areas may be joined too. Neither order nor grouping matters, and a fresh run of the same head changes
+    nothing; a run that is joined with itself has its records twice. Refuses 16, 21, 22."""
+    return _taken(_call("join")(_of("first", first, Run), _of("second", second, Run))).run
 
 
 def add_list(a_head, records):
@@ -503,5 +516,6 @@ def report_sheet(text):
     return SheetText(bytes(buffer[:answer.bytes]), answer.sheet_number, answer.sheet_line)
 
 
-if layout() != (LAYOUT, ctypes.sizeof(Run)):
+# a call may have come without another layout
+if not all(hasattr(_lib, "haldurap_" + name) for name in _CALLS) or layout() != (LAYOUT, ctypes.sizeof(Run)):
     raise ImportError("%s is of another version than haldurap.py; %s" % (LIBRARY, _BUILD))

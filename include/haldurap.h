@@ -22,8 +22,9 @@
      alone. Only haldurap_layout and haldurap_in_order have none: they refuse nothing. An answer
      that is dropped is warned about (HALDURAP_ANSWER).
    - In a refused answer (its number is not 0) every other value is 0, also the floats and every
-     word of a run, with three exceptions:
+     word of a run, with four exceptions:
        haldurap_add          the run is the one that was handed in, byte for byte;
+       haldurap_join         the run is the first that was handed in, byte for byte;
        haldurap_sheet        line is the line that decided, from 1;
        haldurap_report_sheet sheet_number and sheet_line are told also with 14.
      A list with refused records and a text with the line REFUSED are no refused answers: number
@@ -35,15 +36,16 @@
      (also where the length is 0), aligned memory of the stated length, a buffer and areas that
      overlap nothing else that is lent.
    - Where several grounds fit, the first in this order is given: 16, then 11, then ascending; in
-     adding to an area 16, 17, 3 to 8, 18; of a head 1, 2, 19, 20; in a line of a sheet and in a list
-     10 comes first. A sheet is sent back by its first bad line.
+     adding to an area 16, 17, 3 to 8, 18; in joining 16, 21, 22; of a head 1, 2, 19, 20; in a line of
+     a sheet and in a list 10 comes first. A sheet is sent back by its first bad line.
    - A run is plain data, and so are areas. They may be copied, compared by memcmp, stored and
      handed in again. A run is tested for order (16) by every call that takes one, areas by every
      call that reads them; see haldurap_run and haldurap_areas for what that test sees and what it
      cannot see.
    - Later versions move the layout of a run, and of areas with it. Compare haldurap_layout() with
      HALDURAP_LAYOUT and sizeof(haldurap_run) before runs or areas are kept in files, or a header
-     and an archive are mixed.
+     and an archive are mixed. haldurap_join came without another layout: the linker misses it in an
+     archive that is older, and runs that were kept may be joined.
 
    Units: grams, vehicle kilometres and km/h are whole numbers; trip lengths are tenths of km,
    temperatures tenths of a degree Celsius, shares percent. A day is written year x 10,000 +
@@ -74,7 +76,7 @@ extern "C" {
 #define HALDURAP_LAYOUT 6   /* first and last joined haldurap_head; the run's own layout is that of 3 */
 
 /* Limits. */
-#define HALDURAP_MOST_RECORDS 5000      /* records in a run */
+#define HALDURAP_MOST_RECORDS 5000      /* records in a run, a joined one too */
 #define HALDURAP_MOST_TEXT 65536        /* bytes of text that haldurap_report_sheet reads */
 #define HALDURAP_LINE_BYTES 97          /* one line of a report, LF included */
 #define HALDURAP_REPORT_BYTES 1455      /* room enough for every report: 15 lines */
@@ -110,7 +112,9 @@ enum haldurap_number {
     HALDURAP_NO_AREA = 17,          /* area above 15 */
     HALDURAP_FULL_AREA = 18,        /* the area has 300 records or more and the common 200 are used */
     HALDURAP_NO_DAY = 19,           /* no such day, or not from 1980 to 2100 */
-    HALDURAP_DAY_ORDER = 20         /* the last day before the first, or in another year */
+    HALDURAP_DAY_ORDER = 20,        /* the last day before the first, or in another year */
+    HALDURAP_HEADS_DIFFER = 21,     /* L or an X of the two runs differs */
+    HALDURAP_FULL_TOGETHER = 22     /* more than 5,000 records together */
 };
 
 enum haldurap_fuel { HALDURAP_GASOLINE = 1, HALDURAP_DIESEL = 2, HALDURAP_LPG = 3 };
@@ -155,9 +159,9 @@ typedef struct haldurap_record {
     haldurap_speeds speeds;     /*  48 */
 } haldurap_record;
 
-/* A run: what has been added up under one head. 1,128 bytes.
-   Take it from haldurap_open, haldurap_add, haldurap_add_list, haldurap_sheet and haldurap_area_run, and ask by
-   the calls below.
+/* A run: what has been added up under one head, or under heads that come to the same (haldurap_join). 1,128 bytes.
+   Take it from haldurap_open, haldurap_add, haldurap_join, haldurap_add_list, haldurap_sheet and haldurap_area_run,
+   and ask by the calls below.
 
    A run that is not in order gives 16 from every call that takes it, but for haldurap_in_order, which gives 0.
    It is in order if every value is in its range:
@@ -169,7 +173,8 @@ typedef struct haldurap_record {
        rests       each 0 to 999,999,999
    That is all that 16 sees. It cannot see a value that is wrong inside these ranges: a flipped bit, two
    exchanged sums, an x of another head, a record counted twice. Such a run is taken, and the figures
-   are those of the wrong values. A program that keeps runs in files adds a checksum of its own. */
+   are those of the wrong values. Only haldurap_join compares the trip and x of two runs (21), and nothing else.
+   A program that keeps runs in files adds a checksum of its own. */
 typedef struct haldurap_run {
     uint64_t trip;              /*   0  L of the head */
     uint64_t x[16];             /*   8  cold-start values X, at (fuel - 1) x 5 + quantity - 1; the last, x[15], is
@@ -185,7 +190,8 @@ typedef struct haldurap_run {
    They share 5,000 records: each area has 300 for itself, and 200 more are for whichever areas come first. An
    area below 300 can always add an acceptable record, whatever the others have used.
    Open them by haldurap_open_areas (any memory of this size will do, whatever is in it), add by haldurap_add_area,
-   and ask by haldurap_area_run. The run that it gives is a copy: haldurap_add to it does not change the areas.
+   and ask by haldurap_area_run. The run that it gives is a copy: haldurap_add to it and haldurap_join do not change
+   the areas.
 
    Areas that are not in order give 16 from haldurap_add_area and haldurap_area_run. They are in order if
        runs        each is in order (see haldurap_run), and all have the same trip and the same 16 x
@@ -285,6 +291,25 @@ HALDURAP_ANSWER haldurap_run_answer haldurap_open(haldurap_head head);
        a = haldurap_add(run, record); run = a.run;
    is right whether the record was taken or not. */
 HALDURAP_ANSWER haldurap_run_answer haldurap_add(haldurap_run run, haldurap_record record);
+
+/* Joins two runs into one, as where two crews key in halves of one town: count, kilometres and the 60 sums of the
+   answer's run are theirs added up, exact to the billionth of a gram; trip and x are those of both.
+   Runs may be joined if L and all 16 X agree, as they do where both were opened with the same head, and if they
+   have at most 5,000 records together. Nothing else of a head is compared: other heads may come to the same L and
+   X, as with exchanged months. The distance of a printed total from the exact sum holds over both lists together,
+   each record measured by the head that it was added under.
+   Where no join is refused, neither order nor grouping matters: joining is commutative and associative, byte for
+   byte, and a fresh run of the same head on either side changes nothing. The answer's run may be asked, added to
+   and joined as any other; a later haldurap_add goes by the run's own L and X.
+   The runs of areas (haldurap_area_run) may be joined too, with each other and with single runs. The answer's run
+   is a single run that belongs to no area, whose limit is 5,000 (9, not 18), and the areas stay as they were. All
+   sixteen of one haldurap_areas, joined one after the other, have at most 5,000 records: no such join is refused.
+   A run does not tell which records are in it: one that is joined with itself, or two with the same records, count
+   these twice, and no number is given.
+   Refuses 16 (either run), then 21, 22, and gives back the first run, byte for byte. So
+       a = haldurap_join(run, other); run = a.run;
+   is right whether the other run was taken or not; a.number tells which. */
+HALDURAP_ANSWER haldurap_run_answer haldurap_join(haldurap_run first, haldurap_run second);
 
 /* Opens a run and adds records one after the other, as haldurap_open and haldurap_add would: the numbers
    are nine a record (HALDURAP_RECORD_NUMBERS), in the order of haldurap_record: class, vehicles, km, the

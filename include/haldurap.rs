@@ -9,7 +9,7 @@ compile_error!("haldurap.rs: the archive is for x86-64 Linux with 64-bit pointer
 /// The layout that this file describes; `haldurap_layout` tells that of the archive.
 pub const LAYOUT: u64 = 6;
 
-/// Records in a run.
+/// Records in a run, a joined one too.
 pub const MOST_RECORDS: u64 = 5000;
 /// Bytes of text that `report_sheet` reads.
 pub const MOST_TEXT: usize = 65536;
@@ -80,6 +80,10 @@ pub const FULL_AREA: u64 = 18;
 pub const NO_DAY: u64 = 19;
 /// The last day before the first, or in another year.
 pub const DAY_ORDER: u64 = 20;
+/// L or an X of the two runs differs.
+pub const HEADS_DIFFER: u64 = 21;
+/// More than 5,000 records together.
+pub const FULL_TOGETHER: u64 = 22;
 
 // Fuels.
 
@@ -196,6 +200,7 @@ unsafe extern "C" {
     pub safe fn haldurap_layout() -> LayoutAnswer;
     pub safe fn haldurap_open(head: Head) -> RunAnswer;
     pub safe fn haldurap_add(run: Run, record: Record) -> RunAnswer;
+    pub safe fn haldurap_join(first: Run, second: Run) -> RunAnswer;
     pub fn haldurap_add_list(head: Head, numbers: *const u64, length: usize) -> ListAnswer;
     #[must_use]
     pub safe fn haldurap_in_order(run: Run) -> u64;

@@ -4,6 +4,7 @@
 
 - include/haldurap.h compiles by itself as C11 and C99 and as C++17 and C++11, without a warning.
 - Each call, with its answer dropped, is warned about in C, C++ and Rust.
+- A join of anything but two runs does not compile in C, C++ and Rust.
 - Calls and constants of the header, of include/haldurap.rs and of examples/haldurap.py are the same.
 - A pointer is only read through in Rust exactly where it is in C; each safe function of Rust is among those that are dropped.
 - The archive defines exactly the header's calls, and needs nothing but memcpy and memset.
@@ -92,7 +93,7 @@ def declarations(calls, constants, pointers):
     same(rust_pointers(rust), pointers, "pointers of haldurap.rs")
     same(sorted(re.findall(r"^pub fn (\w+)\(", rust, re.M)), sorted(call.split("(")[0] for call in WRAPPERS), "safe functions of haldurap.rs")
     same({"haldurap_" + name: len(words) for name, (words, _) in python._CALLS.items()}, numbers, "calls of haldurap.py and their parameters")
-    same(sorted(python.MEANINGS), list(range(1, 21)), "meanings of haldurap.py")
+    same(sorted(python.MEANINGS), list(range(1, 23)), "meanings of haldurap.py")
 
 
 # ---- The compilers
@@ -127,11 +128,42 @@ def compiled(calls, folder):
     same((status != 0, said.count("that must be used")), (True, len(calls) + len(WRAPPERS)), "dropped answers in Rust")
 
 
+def joined(folder):
+    for name, words in (("c", ["gcc", "-std=c11"]), ("cc", ["g++", "-std=c++17"]), ("rs", ["rustc", "--edition", "2024", "--crate-type", "lib"])):
+        for call, compiles in JOINS.items():
+            path = os.path.join(folder, "join." + name)
+            with open(path, "w", encoding="utf-8") as file:
+                if name == "rs":
+                    file.write('#[path = "%s"]\nmod haldurap;\nuse haldurap::*;\n' % RUST)
+                    file.write("pub fn joined(head: Head, record: Record, run: Run, areas: &[Areas]) -> u64 { %s.number }\n" % call)
+                else:
+                    file.write("#include <haldurap.h>\n%s\nuint64_t joined(void);\nuint64_t joined(void) { return %s.number; }\n" % (ARGUMENTS_C, call))
+            more = ["--emit", "metadata"] if name == "rs" else ["-c", "-I" + os.path.dirname(HEADER)]
+            status, said = run(*words, *more, "-o", os.path.join(folder, "join.out"), path)
+            same((status == 0, "error" in said), (compiles, not compiles), "%s in %s" % (call, name))
+
+
+# Joins as they are meant, and with what is no run, or not two; the same words in all languages. Whether each compiles.
+JOINS = {
+    "haldurap_join(run, run)": True,
+    "haldurap_join(run, haldurap_open(head).run)": True,
+    "haldurap_join(areas[0].runs[3], run)": True,
+    "haldurap_join(run, haldurap_open(head))": False,
+    "haldurap_join(haldurap_add(run, record), run)": False,
+    "haldurap_join(run, record)": False,
+    "haldurap_join(head, run)": False,
+    "haldurap_join(areas[0], run)": False,
+    "haldurap_join(run, areas[0].runs)": False,
+    "haldurap_join(run)": False,
+    "haldurap_join(run, run, run)": False,
+}
+
 # What each call that is no question of fuel and quantity is handed.
 ARGUMENTS = {
     "haldurap_layout": [],
     "haldurap_open": ["head"],
     "haldurap_add": ["run", "record"],
+    "haldurap_join": ["run", "run"],
     "haldurap_add_list": ["head", "numbers", "0"],
     "haldurap_in_order": ["run"],
     "haldurap_open_areas": ["areas", "0", "head"],
@@ -173,6 +205,7 @@ def main():
     declarations(calls, header_constants(text), header_pointers(text))
     with tempfile.TemporaryDirectory() as folder:
         compiled(calls, folder)
+        joined(folder)
     linked(calls)
     print("%d calls, %d comparisons, %d wrong" % (len(calls), done, failed))
     sys.exit(1 if failed else 0)

@@ -10,7 +10,9 @@ import os
 import pickle
 import random
 import re
+import subprocess
 import sys
+import tempfile
 
 ROOT = os.path.normpath(os.path.join(os.path.dirname(os.path.abspath(__file__)), ".."))
 for folder in ("examples", "tools"):
@@ -177,6 +179,93 @@ def runs(rng):
     listed(full, full, "add_list of 5,001 records")
     number, run = 0, h.add_list(head_of(head), full).run
     same(outcome(h.add, run, record_of(vectors.EXAMPLE)), refused(9), "add to a full run")
+
+
+def joins(rng):
+    """Runs joined, as the reference has them: halves of a list, runs of areas, fresh runs, and each refusal with its number."""
+    head = sheets.some_head(rng)
+    fleet = [vectors.some_record(rng) for _ in range(12)]
+
+    def listed(records, a_head=head):
+        """A run of both sides."""
+        return h.add_list(head_of(a_head), numbers_of(records)).run, ref.add_list(a_head, numbers_of(records))[-1]
+
+    def joined(first, second, what):
+        """A join of two runs of both sides: the joined run of both, or the first where it is refused."""
+        before = bytes(first[0]), bytes(second[0])
+        number, wanted = ref.join(first[1], second[1])
+        found = outcome(h.join, first[0], second[0])
+        same((bytes(first[0]), bytes(second[0])), before, what + ", the runs handed in")
+        if number or not isinstance(found, h.Run):
+            same(found, refused(number) if number else "a run", what)
+            return first
+        same_run(found, wanted, what)
+        return found, wanted
+
+    whole, fresh = listed(fleet), listed([])
+    for cut in (0, 1, 5, 11, 12):
+        halves = listed(fleet[:cut]), listed(fleet[cut:])
+        for first, second in (halves, halves[::-1]):
+            both = joined(first, second, "join of %d and %d" % (first[0].count, second[0].count))
+            same(words(both[0]), words(whole[0]), "the halves joined")
+    for first, second in ((whole, fresh), (fresh, whole)):
+        same(bytes(joined(first, second, "join with a fresh run")[0]), bytes(whole[0]), "a fresh run")
+    a, b, c = (listed(fleet[i:i + 4]) for i in (0, 4, 8))
+    same(bytes(h.join(h.join(a[0], b[0]), c[0])), bytes(h.join(a[0], h.join(b[0], c[0]))), "joins in two shapes")
+    same(bytes(h.join(a[0], h.join(b[0], c[0]))), bytes(whole[0]), "three parts joined")
+    twice = joined(whole, whole, "join of a run with itself")
+    same(twice[0].count, 24, "a run joined with itself")
+    questions(*twice, rng)
+    same_run(h.add(twice[0], record_of(fleet[0])), ref.add(twice[1], fleet[0])[1], "an add to a joined run")
+    # months exchanged are another head with the same X; another L, T or period is not
+    same(words(joined(whole, listed(fleet, (head[0], head[1][::-1])), "months exchanged")[0]), words(twice[0]), "months exchanged")
+    trip, temps = 120, vectors.YEAR
+    mild = listed(fleet, (trip, temps))
+    for other in ((121, temps), (trip, [*temps[:11], temps[11] + 1]), (trip, temps, 20260515, 20261020), (trip, temps, 20260101, 20261231)):
+        for first, second in ((mild, listed(fleet, other)), (listed(fleet, other), mild), (mild, listed([], other))):
+            same(outcome(h.join, first[0], second[0]), refused(21), "join of other heads")
+            joined(first, second, "join of other heads %s" % (other,))
+    for i in range(17):
+        changed = h.Run.from_buffer_copy(mild[0])
+        if i < 16:
+            changed.x[i] += 1
+        else:
+            changed.trip += 1
+        # before 22 as well
+        for changed.count in (12, 4989):
+            same(outcome(h.join, mild[0], changed), refused(21), "join with word %d of another head" % i)
+    # 5,000 together, and one more
+    for one, other, number in ((5000, 0, 0), (4999, 1, 0), (2500, 2500, 0), (5000, 1, 22), (1, 5000, 22), (2501, 2500, 22)):
+        first, second = (listed([vectors.EXAMPLE] * n) for n in (one, other))
+        both = joined(first, second, "join of %d and %d" % (one, other))
+        same(both[0].count, one if number else 5000, "records of %d and %d" % (one, other))
+        same(outcome(h.add, both[0], record_of(vectors.EXAMPLE)) == refused(9), both[0].count == 5000, "an add behind %d and %d" % (one, other))
+    # 16 before 21 and 22, in either run
+    full, bad = listed([vectors.EXAMPLE] * 5000), h.Run.from_buffer_copy(whole[0])
+    bad.rests[59], bad.trip = 10**9, 201
+    for first, second in ((full[0], bad), (bad, full[0]), (bad, bad), (h.Run(), full[0]), (full[0], h.Run())):
+        same(outcome(h.join, first, second), refused(16), "join with a run out of order")
+    # sixteen areas one after the other, then with a single run; the areas stay
+    lent, wanted, both = h.open_areas(head_of(head)), ref.open_areas(head)[1], fresh
+    for turn in range(40):
+        area, record = turn * 7 % 16, vectors.some_record(rng)
+        h.add_area(lent, area, record_of(record))
+        wanted = ref.add_area(wanted, area, record)[1]
+    before = bytes(lent)
+    for area in range(16):
+        both = joined(both, (h.area_run(lent, area), ref.area_run(wanted, area)[1]), "join of area %d" % area)
+        # the areas' own run may be handed in too
+        same(words(h.join(fresh[0], lent.runs[area])), words(h.area_run(lent, area)), "join of an area's own run")
+    same((both[0].count, bytes(lent) == before), (40, True), "areas joined")
+    questions(*joined(both, whole, "join of areas and a run"), rng)
+    # each message says what is wrong and what to do
+    for first, second, number, said in ((mild[0], whole[0], 21, "same head"), (full[0], whole[0], 22, "keep them apart")):
+        try:
+            h.join(first, second)
+            text = "taken"
+        except h.Refused as error:
+            text = str(error)
+        same((text.startswith("refused with %d: " % number), said in text), (True, True), "what is said of %d: %s" % (number, text))
 
 
 def days(rng):
@@ -518,6 +607,10 @@ def wrong_arguments():
         same(outcome(setattr, value, "comon", 3), "AttributeError: %s has no field comon; its fields are %s" % (name, fields), "a misspelt field of %s" % name)
     same(bytes(lent) == whole, True, "areas after refused changes")
     same(h.add_area(lent, Index(3), part).runs[3].count, 1, "an area's number of another type")
+    # joins
+    for value in (None, 5, bytes(1128), head, part, lent, [run], (run, run)):
+        same(outcome(h.join, value, run), error("first", "a Run is wanted, %r given" % (value,)), "join of %r and a run" % (value,))
+        same(outcome(h.join, run, value), error("second", "a Run is wanted, %r given" % (value,)), "join of a run and %r" % (value,))
     # the rest
     for call, arguments, name, wanted in ((h.open_run, (run,), "a_head", "a Head"), (h.add, (head, part), "run", "a Run"), (h.add, (run, head), "a_record", "a Record"),
                                           (h.add_list, (run, []), "a_head", "a Head"), (h.in_order, (head,), "run", "a Run"), (h.report, (head,), "run", "a Run"),
@@ -538,22 +631,43 @@ def whole_module():
     """Every call of the header has its function, every number its text."""
     with open(os.path.join(ROOT, "include", "haldurap.h"), encoding="utf-8") as file:
         calls = sorted(set(re.findall(r"^HALDURAP_ANSWER \w+ haldurap_(\w+)\(", file.read(), re.M)))
-    same(len(calls), 25, "calls of the header")
+    same(len(calls), 26, "calls of the header")
     names = {"open": "open_run"}
     same([name for name in calls if not callable(getattr(h, names.get(name, name), None))], [], "calls without a function")
-    for number in range(1, 21):
+    for number in range(1, 23):
         for line in (None, 7):
             error = h.Refused(number, line)
             where = "" if line is None else " at line 7"
             same(str(error), "refused with %d%s: %s" % (number, where, h.MEANINGS[number]), "text of Refused")
             again = pickle.loads(pickle.dumps(error))
             same((again.number, again.line, str(again)), (number, line, str(error)), "Refused, stored")
-    same(len(set(h.MEANINGS.values())), 20, "meanings")
+    same(len(set(h.MEANINGS.values())), 22, "meanings")
+
+
+def other_libraries():
+    """A library of another layout, and one of this layout without a call that the module has, are told at import."""
+    calls = ["haldurap_" + name for name in h._CALLS if name != "layout"]
+    with tempfile.TemporaryDirectory() as folder:
+        for version, there, taken in ((h.LAYOUT, calls, True), (h.LAYOUT - 1, calls, False),
+                                      (h.LAYOUT, [call for call in calls if call != "haldurap_join"], False), (h.LAYOUT, [], False)):
+            source, library = os.path.join(folder, "other.c"), os.path.join(folder, "other.so")
+            with open(source, "w", encoding="utf-8") as file:
+                file.write("struct layout { unsigned long version, size; };\n")
+                file.write("struct layout haldurap_layout(void) { return (struct layout){%d, 1128}; }\n" % version)
+                file.write("".join("void %s(void) {}\n" % call for call in there))
+            subprocess.run(["gcc", "-shared", "-fPIC", "-o", library, source], check=True)
+            ended = subprocess.run([sys.executable, "-c", "import haldurap"], cwd=os.path.join(ROOT, "examples"), capture_output=True, text=True,
+                                   env={**os.environ, "HALDURAP": library})
+            said = ended.stderr.splitlines()[-1:] or [""]
+            wanted = (True, False) if taken else (False, True)
+            same((ended.returncode == 0, said[0].startswith("ImportError: %s is of another version than haldurap.py" % library)), wanted,
+                 "a library of layout %d with %d calls: %s" % (version, len(there), said[0]))
 
 
 def main():
     rng = random.Random(1997)
     whole_module()
+    other_libraries()
     wrong_arguments()
     runs(rng)
     days(rng)
@@ -563,6 +677,7 @@ def main():
     areas_out_of_order()
     copies()
     texts(rng)
+    joins(rng)
     print("%d compared, %d wrong" % (done, failed))
     sys.exit(1 if failed else 0)
 

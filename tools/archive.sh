@@ -11,7 +11,7 @@ objects=target/archive
 rm -f target/libhaldurap.a
 rm -rf "$objects"
 mkdir -p "$objects"
-for crate in capi_runs capi_lists capi_areas capi_questions capi_map capi_texts; do
+for crate in capi_runs capi_joins capi_lists capi_areas capi_questions capi_map capi_texts; do
     echo "proving and building $crate"
     rt staticlib "$crate" > "$objects/$crate.log" 2>&1 || { cat "$objects/$crate.log"; echo "tools/archive.sh: $crate is not proved, no archive is written"; exit 1; }
     (cd "$objects" && ar x "../staticlib/lib$crate.a")

@@ -120,18 +120,8 @@ class Answers:
     line = vectors.Answers.line
 
 
-class Cases(vectors.Cases):
-    """The lines of standard input, answered as they are said, so that numbers changed by hand can be put back."""
-
-    def __init__(self):
-        super().__init__()
-        self.answers, self.answered = Answers(), []
-
-    def say(self, *words, number=None):
-        """A line; where the case was made for a number, the first of its answer is held to it."""
-        super().say(*words)
-        self.answered.append(self.answers.line(self.lines[-1]))
-        assert number is None or self.answered[-1].split(" = ")[1].split()[0] == str(number), self.answered[-1]
+class Cases(vectors.AnsweredCases):
+    """The lines of standard input; numbers changed by hand can be put back."""
 
     def open(self, trip, temps, first=0, last=0, number=0):
         self.say("open", trip, *temps, first, last, number=number)
@@ -618,16 +608,15 @@ def dated(c):
 
 def cases():
     """Every line of standard input, and what each is answered."""
-    c = Cases()
+    c = Cases(Answers())
     for part in (example, one_filled, common_used, own_kept, no_area, grounds, several_wrong, openings, lengths, heads, counts, sums,
                  largest, loops, anything, dated):
         part(c)
-    return c.lines, c.answered
+    return c
 
 
 def main():
-    lines, answered = cases()
-    vectors.write("area_vectors", "".join(line + "\n" for line in lines).encode(), "".join(answered).encode())
+    vectors.write_answered("area_vectors", cases())
 
 
 if __name__ == "__main__":

@@ -1,5 +1,5 @@
 """The inventory in exact whole numbers, written from the customer's request alone: "COPERT II inventory core", its
-document 01, and the jobs of its document 02 that have landed (1 to 5), of which docs/SPECIFICATION.md says the same in our
+document 01, and the jobs of its document 02 that have landed (1 to 6), of which docs/SPECIFICATION.md says the same in our
 own words. Nothing here comes from the Rattle code. Lists of records, and the number and line beside a text, are from
 SPECIFICATION, "Lists of records" and "Report"; the order of the numbers of lent areas is from that page too.
 
@@ -199,6 +199,11 @@ def unrounded_x(head):
     return x
 
 
+def rounded_x(head):
+    """The values X of a head, by X_NAMES."""
+    return {name: half_up(x) for name, x in unrounded_x(head).items()}
+
+
 def cold_factor(e, x):
     """The cold factor of E(urban speed) and X."""
     return half_up(Fraction(e * x, 10**9))
@@ -233,7 +238,7 @@ def open_run(head):
     number, run = head_number(head), Run()
     if number == 0:
         run.trip = head[0]
-        run.x = {name: half_up(x) for name, x in unrounded_x(head).items()}
+        run.x = rounded_x(head)
     return number, run
 
 
@@ -248,11 +253,18 @@ def record_number(record):
                   (8, any(not 10 <= v <= 130 for v in speeds))])
 
 
-def add(run, record):
-    """The number and the run with the record, or as it came where refused."""
+def add(run, record, times=1):
+    """The number of the last of so many adds of one record, at least one, and the run after them, as it came where all are
+    refused. A refused add changes nothing, so the next is refused alike."""
     number = first([(16, not in_order(run)), (record_number(record), record_number(record) != 0),
                     (9, run.count >= 5000)])
-    return (number, run) if number else (0, with_record(run, record, 1))
+    if number != 0:
+        return number, run
+    taken = min(times, 5000 - run.count)
+    after = with_record(run, record, taken)
+    # Sums and limits rise evenly, so a run in order at both ends was so before each add between them: 16 fitted none.
+    assert times == 1 or in_order(after)
+    return 0 if taken == times else 9, after
 
 
 def with_record(run, record, times):
@@ -290,6 +302,26 @@ def add_list(head, numbers):
     return 0, taken, *first_refused, run
 
 
+def same_head(run, other):
+    """Whether two runs agree in all that a run has of its head: L and every X."""
+    return (run.trip, run.x) == (other.trip, other.x)
+
+
+def join(run, other):
+    """The number and the run of both together, or the first as it came where refused."""
+    number = first([(16, not (in_order(run) and in_order(other))), (21, not same_head(run, other)),
+                    (22, run.count + other.count > 5000)])
+    if number != 0:
+        return number, run
+    new = run.copy()
+    new.count += other.count
+    for fuel in FUELS:
+        new.km[fuel] += other.km[fuel]
+    for place in new.grams:
+        new.grams[place], new.rests[place] = divmod(run.sum(*place) + other.sum(*place), 10**9)
+    return 0, new
+
+
 def beyond_own(counts):
     """The records beyond 300, summed over the areas."""
     return sum(max(0, count - OWN_RECORDS) for count in counts)
@@ -301,10 +333,9 @@ def is_full(count, common):
 
 
 def areas_in_order(areas):
-    """Whether areas are in order: every run, one head (all that a run has of it is L and X), and the common use."""
-    one = areas.runs[0]
+    """Whether areas are in order: every run, one head, and the common use."""
     return (all(in_order(run) for run in areas.runs)
-            and all((run.trip, run.x) == (one.trip, one.x) for run in areas.runs)
+            and all(same_head(run, areas.runs[0]) for run in areas.runs)
             and areas.common == beyond_own(run.count for run in areas.runs)
             and areas.common <= COMMON_RECORDS)
 
@@ -526,12 +557,23 @@ def program_text(text):
 
 
 class Tally:
-    """Demand 3's tally on paper: count, kilometres by fuel, exact sums by (fuel, quantity)."""
+    """Demand 3's tally on paper: count, kilometres by fuel, exact sums by (fuel, quantity). Since job 6 it is that of a history: a list
+    of adds under a head that opening takes, two histories joined, or further adds to a history's run. Each record is measured by the
+    head that it was added under."""
 
     def __init__(self, head):
         self.count, self.km = 0, {f: 0 for f in FUELS}
         self.sums = {(f, q): Fraction(0) for f in FUELS for q in QUANTITIES}
+        # L and the rounded X of the first head: all that decides whether heads agree.
+        self.head = head[0], rounded_x(head)
         self.x, self.gain = unrounded_x(head), {}
+
+    def copy(self):
+        """The same tally in a place of its own."""
+        other = Tally.__new__(Tally)
+        other.count, other.km, other.sums = self.count, dict(self.km), dict(self.sums)
+        other.head, other.x, other.gain = self.head, self.x, self.gain
+        return other
 
     def feed(self, record, room):
         """The record of the next add, and whether there is room for it."""
@@ -545,6 +587,23 @@ class Tally:
         self.km[fuel] += k
         for q in QUANTITIES:
             self.sums[fuel, q] += self.gain[record][q - 1]
+
+    def measured_by(self, head):
+        """The same history; its further adds are measured by this head, which opening takes, with the L and the X of the first."""
+        assert head_number(head) == 0 and self.head == (head[0], rounded_x(head))
+        other = self.copy()
+        other.x, other.gain = unrounded_x(head), {}
+        return other
+
+    def joined(self, other):
+        """The number and the history of two joined; refused, it is this one. Told from their heads and counts, never from a run."""
+        number = first([(21, self.head != other.head), (22, self.count + other.count > 5000)])
+        both = self.copy()
+        if number == 0:
+            both.count += other.count
+            both.km = {f: self.km[f] + other.km[f] for f in FUELS}
+            both.sums = {place: self.sums[place] + other.sums[place] for place in self.sums}
+        return number, both
 
 
 def tally(head, records):

@@ -64,6 +64,20 @@ class Cases:
         self.add(record)
 
 
+class AnsweredCases(Cases):
+    """The lines of standard input, answered as they are said, so that a case can go by what was answered."""
+
+    def __init__(self, answers):
+        super().__init__()
+        self.answers, self.answered = answers, []
+
+    def say(self, *words, number=None):
+        """A line; where the case was made for a number, the first of its answer is held to it."""
+        super().say(*words)
+        self.answered.append(self.answers.line(self.lines[-1]))
+        assert number is None or self.answered[-1].split(" = ")[1].split()[0] == str(number), self.answered[-1]
+
+
 def example(c):
     """The specification's fleet, its report, its balance, and the same fleet without cold CO."""
     c.open(120, MILD)
@@ -842,6 +856,11 @@ def write(program, stdin, stdout):
         else:
             with open(path, "wb") as file:
                 file.write(data)
+
+
+def write_answered(program, cases):
+    """The same of cases that were answered as they were said."""
+    write(program, "".join(line + "\n" for line in cases.lines).encode(), "".join(cases.answered).encode())
 
 
 def write_lines(program, lines, answers):

@@ -9,6 +9,7 @@ mod areas;
 mod digits;
 #[path = "../../include/haldurap.rs"]
 mod haldurap;
+mod joins;
 mod periods;
 mod random;
 mod reference;
@@ -90,12 +91,12 @@ fn limit(i: usize, count: u64) -> u64 {
 // ---- Counting
 
 /// None, and the numbers of refusals.
-const NUMBERS: usize = 21;
+const NUMBERS: usize = 23;
 
-const CALLS: [&str; 25] = [
+const CALLS: [&str; 26] = [
     "layout", "open", "add", "total", "urban", "rural", "highway", "cold", "balance", "co2", "so2", "lead", "map_row",
     "figure_urban", "figure_rural", "figure_highway", "figure_cold", "report", "sheet", "report_sheet", "add_list", "in_order",
-    "open_areas", "add_area", "area_run",
+    "open_areas", "add_area", "area_run", "join",
 ];
 const LAYOUT: usize = 0;
 const OPEN: usize = 1;
@@ -116,6 +117,7 @@ const IN_ORDER: usize = 21;
 const OPEN_AREAS: usize = 22;
 const ADD_AREA: usize = 23;
 const AREA_RUN: usize = 24;
+const JOIN: usize = 25;
 
 struct Held {
     /// By call and number.
@@ -135,6 +137,7 @@ struct Held {
     areas: areas::Tried,
     digits: digits::Tried,
     periods: periods::Tried,
+    joins: joins::Tried,
     /// Totals held against exact sums.
     near: u64,
     differences: u64,
@@ -194,12 +197,13 @@ fn add(held: &mut Held, ours: &mut c::Run, theirs: &mut plain::Run, record: &pla
     number
 }
 
-/// The archive's totals of a run against the exact sums of its list.
-fn ask_distance(held: &mut Held, ours: c::Run, tally: &plain::Tally) {
+/// The archive's totals of a run against the exact sums of its list, or of its history: whether a total of a fuel and a quantity (from
+/// 0) is near.
+fn ask_distance(held: &mut Held, ours: c::Run, is_near: impl Fn(usize, usize, u64) -> bool) {
     for (fuel, quantity) in (0..3).flat_map(|fuel| (0..5).map(move |quantity| (fuel, quantity))) {
         let answer = c::haldurap_total(ours, fuel as u64 + 1, quantity as u64 + 1);
         held.near += 1;
-        if answer.number != 0 || !tally.is_near(fuel, quantity, answer.grams) {
+        if answer.number != 0 || !is_near(fuel, quantity, answer.grams) {
             held.differ(|| format!("{answer:?} of fuel {} quantity {} is too far from the exact sum, in {ours:?}", fuel + 1, quantity + 1));
         }
     }
@@ -723,6 +727,7 @@ fn main() {
         areas: areas::Tried::default(),
         digits: digits::Tried::default(),
         periods: periods::Tried::default(),
+        joins: joins::Tried::default(),
         near: 0,
         differences: 0,
     };
@@ -761,7 +766,7 @@ fn main() {
                 tally.feed(&record);
             }
         }
-        ask_distance(&mut held, ours, &tally);
+        ask_distance(&mut held, ours, |fuel, quantity, grams| tally.is_near(fuel, quantity, grams));
         runs += 1;
         full += (theirs.count == 5000) as u64;
         ask_all(&mut held, &mut r, ours, &theirs);
@@ -779,7 +784,7 @@ fn main() {
                 tally.feed(&record);
             }
         }
-        ask_distance(&mut held, ours, &tally);
+        ask_distance(&mut held, ours, |fuel, quantity, grams| tally.is_near(fuel, quantity, grams));
         (runs, full) = (runs + 1, full + 1);
         ask_all(&mut held, &mut r, ours, &theirs);
     }
@@ -812,6 +817,7 @@ fn main() {
     areas::areas(&mut held, &mut r, small);
     digits::digits(&mut held, &mut r, 12_000 / part);
     periods::periods(&mut held, &mut r, 15_000 / part, small);
+    joins::joins(&mut held, &mut r, small);
 
     println!("runs opened and added to: {runs}, of them full: {full}; runs in order made up: {made}; runs out of order: {}", held.out_of_order);
     println!("adds: {}; sheets: {}; buffers compared whole: {}; figures not given: {}", held.of(ADD), held.of(SHEET), held.buffers, held.not_given);
@@ -828,6 +834,7 @@ fn main() {
         held.of(OPEN_AREAS),
         held.of(ADD_AREA)
     );
+    println!("joins: {}; {}", held.of(JOIN), held.joins.text());
     println!("\nanswers by number:");
     print!("{:>16}", "");
     (0..NUMBERS).for_each(|n| print!("{n:>9}"));
@@ -841,6 +848,9 @@ fn main() {
     let [met, passed] = limits;
     println!("\nlimits of areas by number, met:  {}", by_number(met));
     println!("and passed:  {}", by_number(passed));
+    let [met, passed] = held.joins.limits;
+    println!("limits of joins by number, met:  {}; and passed:  {}", by_number(&met), by_number(&passed));
+    println!("joins of histories, as their tallies decide, by number:  {}", by_number(&held.joins.of_histories));
     println!("\nlists by the number of their first refused record:  {}", by_number(&held.passed_over));
     println!("texts of sheets by the sheet's own number:  {}", by_number(&held.texts));
     println!("of them without room (14) by the sheet's own number:  {}", by_number(&held.no_room));

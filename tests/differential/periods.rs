@@ -95,7 +95,7 @@ fn at_random(held: &mut Held, r: &mut Random, calendar: &[u64]) {
             tally.feed(record);
         }
     }
-    ask_distance(held, ours, &tally);
+    ask_distance(held, ours, |fuel, quantity, grams| tally.is_near(fuel, quantity, grams));
     ask_list(held, &head, &records.iter().flat_map(numbers).collect::<Vec<_>>());
     // only the days weigh: T of a month without any does not show, a head without dates or of other days is another one
     let weights = plain::month_weights(head.days);

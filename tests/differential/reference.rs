@@ -1,5 +1,5 @@
 //! The inventory in plain Rust: ordinary structs, u128 and i128 wherever a product might be large. Written from the
-//! customer's request ("COPERT II inventory core", its document 01, and jobs 1, 3, 4 and 5 of document 02, of which
+//! customer's request ("COPERT II inventory core", its document 01, and jobs 1 and 3 to 6 of document 02, of which
 //! docs/SPECIFICATION.md says the same in our own words); lists of records and the number and line beside a text are from that
 //! page itself. Nothing here comes from the Rattle code. A refusal is its number in the table of refusals. Fuels, quantities
 //! and kinds count from 0 inside arrays and from 1 where a caller hands them in; areas count from 0.
@@ -306,6 +306,11 @@ impl Run {
             && self.km.iter().all(|&km| km as u128 <= BILLION * self.count as u128)
     }
 
+    /// Whether two runs agree in L and every X, which is all that a run keeps of its head.
+    pub fn same_head(&self, other: &Run) -> bool {
+        self.trip == other.trip && self.x == other.x && self.x_class_3 == other.x_class_3
+    }
+
     /// X of a class: CO of class 3 has its own, everything else that of the fuel.
     fn x_of(&self, class: u64, quantity: usize) -> u64 {
         match (class, quantity) {
@@ -465,6 +470,33 @@ fn write_text(text: &str, buffer: &mut [u8]) -> Result<usize, u64> {
     Ok(text.len())
 }
 
+// ---- Joining
+
+/// Joins two runs into one, or refuses with 16, 21, then 22.
+pub fn join(first: &Run, second: &Run) -> Result<Run, u64> {
+    if !first.in_order() || !second.in_order() {
+        return Err(16);
+    }
+    if !first.same_head(second) {
+        return Err(21);
+    }
+    if first.count + second.count > MOST_RECORDS {
+        return Err(22);
+    }
+    let mut run = first.clone();
+    run.count += second.count;
+    for fuel in 0..3 {
+        run.km[fuel] += second.km[fuel];
+        for quantity in 0..5 {
+            for kind in 0..4 {
+                let sum = &mut run.sums[fuel][quantity][kind];
+                *sum = Sum::of(sum.exact() + second.sums[fuel][quantity][kind].exact());
+            }
+        }
+    }
+    Ok(run)
+}
+
 // ---- Sixteen areas
 
 /// Records that each area has for itself, and records for whoever comes first.
@@ -489,9 +521,7 @@ impl Areas {
     pub fn in_order(&self) -> bool {
         let mut beyond = 0u128;
         for run in &self.runs {
-            // L and X are all that a run keeps of its head
-            let head = &self.runs[0];
-            if !run.in_order() || run.trip != head.trip || run.x != head.x || run.x_class_3 != head.x_class_3 {
+            if !run.in_order() || !run.same_head(&self.runs[0]) {
                 return false;
             }
             if run.count > OWN_RECORDS {
@@ -536,6 +566,7 @@ impl Areas {
 // ---- Exact sums
 
 /// What a list of accepted records comes to, never rounded: hot grams in billionths, cold grams in parts of which `part` are a gram.
+#[derive(Clone)]
 pub struct Tally {
     part: u128,
     /// B × Q by the weights, by fuel and quantity.
@@ -571,12 +602,127 @@ impl Tally {
         }
     }
 
+    /// The records of another list under the same head.
+    fn put(&mut self, other: &Tally) {
+        for fuel in 0..3 {
+            self.km[fuel] += other.km[fuel];
+            for quantity in 0..5 {
+                self.hot[fuel][quantity] += other.hot[fuel][quantity];
+                self.cold[fuel][quantity] += other.cold[fuel][quantity];
+            }
+        }
+    }
+
+    /// The exact sum in parts of a gram.
+    fn exact(&self, fuel: usize, quantity: usize) -> u128 {
+        self.hot[fuel][quantity] * (self.part / BILLION) + self.cold[fuel][quantity]
+    }
+
     /// Whether a printed total lies within half a gram and 1.5 g for ten million kilometres of the exact sum.
     pub fn is_near(&self, fuel: usize, quantity: usize, printed: u64) -> bool {
-        let exact = self.hot[fuel][quantity] * (self.part / BILLION) + self.cold[fuel][quantity];
+        let exact = self.exact(fuel, quantity);
         let allowed = self.part / 2 + 3 * self.km[fuel] as u128 * (self.part / 20_000_000);
         (printed as u128 * self.part).abs_diff(exact) <= allowed
     }
+}
+
+/// What a history comes to, never rounded: a list of adds under a head, two histories joined, or further adds to a history's run. Each
+/// record is measured by the head that it was added under, so that parts of a gram are of several kinds.
+#[derive(Clone)]
+pub struct History {
+    /// The fresh run of the first head: its L and X decide whether two histories may be joined.
+    fresh: Run,
+    pub count: u64,
+    pub km: [u64; 3],
+    /// By head; the next add is measured by the last.
+    tallies: Vec<(Head, Tally)>,
+}
+
+impl History {
+    /// The history of a head that is taken, without a record.
+    pub fn of(head: &Head) -> History {
+        let fresh = open(head).expect("a head that is taken");
+        History { fresh, count: 0, km: [0; 3], tallies: vec![(*head, Tally::of(head))] }
+    }
+
+    /// Further adds are measured by this head, whose L and X are those of the first.
+    pub fn measure_by(&mut self, head: &Head) {
+        assert!(open(head).is_ok_and(|run| run.same_head(&self.fresh)), "a head with other L or X: {head:?}");
+        let at = self.tallies.iter().position(|(other, _)| other == head).unwrap_or(self.tallies.len());
+        if at == self.tallies.len() {
+            self.tallies.push((*head, Tally::of(head)));
+        }
+        let last = self.tallies.len() - 1;
+        self.tallies.swap(at, last);
+    }
+
+    /// An add: 3 to 9, or it is accepted.
+    pub fn add(&mut self, r: &Record) -> Result<(), u64> {
+        if let Some(number) = record_fault(r) {
+            return Err(number);
+        }
+        if self.count >= MOST_RECORDS {
+            return Err(9);
+        }
+        self.count += 1;
+        self.km[fuel_of(r.class)] += r.vehicles * r.km;
+        self.tallies.last_mut().expect("a head").1.feed(r);
+        Ok(())
+    }
+
+    /// Another history joined to this one, or 21, 22 and nothing changed: told from heads and counts, never from a run.
+    pub fn join(&mut self, other: &History) -> Result<(), u64> {
+        if !self.fresh.same_head(&other.fresh) {
+            return Err(21);
+        }
+        if self.count + other.count > MOST_RECORDS {
+            return Err(22);
+        }
+        self.count += other.count;
+        for fuel in 0..3 {
+            self.km[fuel] += other.km[fuel];
+        }
+        for (head, tally) in &other.tallies {
+            match self.tallies.iter_mut().find(|(own, _)| own == head) {
+                Some((_, own)) => own.put(tally),
+                // the last one measures the next add, and that is still the first history's
+                None => self.tallies.insert(0, (*head, tally.clone())),
+            }
+        }
+        Ok(())
+    }
+
+    /// Whether some records would come to another sum if they were measured by another head of the history.
+    pub fn has_own_heads(&self) -> bool {
+        let (_, one) = &self.tallies[0];
+        // cold sums over the weights of all months, compared with the weights multiplied out
+        let differ = |other: &Tally| (0..15).any(|i| one.sums.as_flattened()[i] * other.part != other.sums.as_flattened()[i] * one.part);
+        self.tallies.iter().any(|(_, other)| differ(other))
+    }
+
+    /// Whether a printed total lies within half a gram and 1.5 g for ten million kilometres of the exact sum.
+    pub fn is_near(&self, fuel: usize, quantity: usize, printed: u64) -> bool {
+        // whole grams, and parts of one over a common multiple of all that the heads have
+        let common = self.tallies.iter().fold(1, |common, (_, tally)| common / gcd(common, tally.part) * tally.part);
+        let (mut grams, mut parts) = (0, 0);
+        for (_, tally) in &self.tallies {
+            let exact = tally.exact(fuel, quantity);
+            grams += exact / tally.part;
+            parts += exact % tally.part * (common / tally.part);
+        }
+        let apart = (printed as u128).abs_diff(grams);
+        // further than any total may lie, so that nothing below has more than 128 bits
+        if apart > 1_000_000 {
+            return false;
+        }
+        let allowed = common / 2 + 3 * self.km[fuel] as u128 * (common / 20_000_000);
+        let distance = if printed as u128 >= grams { (apart * common).abs_diff(parts) } else { apart * common + parts };
+        distance <= allowed
+    }
+}
+
+fn gcd(a: u128, b: u128) -> u128 {
+    if b == 0 { a } else { gcd(b, a % b) }
 }
 
 // ---- Sheets

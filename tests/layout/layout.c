@@ -88,6 +88,9 @@ static void sizes_written(haldurap_run run) {
     memset(zeros, 0, ROOM), memset(ones, 255, ROOM);
     WRITTEN(haldurap_run_answer, haldurap_open, (void *, haldurap_head), head);
     WRITTEN(haldurap_run_answer, haldurap_add, (void *, haldurap_run, haldurap_record), run, record);
+    haldurap_run other = run;
+    for (other.trip = 120; other.trip <= 121; other.trip++)
+        WRITTEN(haldurap_run_answer, haldurap_join, (void *, haldurap_run, haldurap_run), run, other);
     WRITTEN(haldurap_balance_answer, haldurap_balance, (void *, haldurap_run, uint64_t, uint64_t, uint64_t), run, 1, 1, 1000);
     WRITTEN(haldurap_map_row_answer, haldurap_map_row, (void *, haldurap_run, uint64_t, uint64_t), run, 1, 1);
     WRITTEN(haldurap_figure_answer, haldurap_figure_urban, (void *, haldurap_run, uint64_t, uint64_t), run, 1, 1);
@@ -318,6 +321,51 @@ static void orders(haldurap_run run) {
     }
 }
 
+/* A join gives this number, and this run, every word of it. */
+static void joined(haldurap_run first, haldurap_run second, uint64_t number, haldurap_run wanted, const char *what, int i) {
+    haldurap_run_answer a = haldurap_join(first, second);
+    same(a.number, number, what, i), same(memcmp(&a.run, &wanted, sizeof wanted), 0, what, i);
+}
+
+/* Joining: each word of the first and of the second run has its effect at its place; refused, the first comes back. */
+static void joins(haldurap_run fresh, haldurap_run run) {
+    haldurap_run first = fresh, second = fresh, both = fresh, bad;
+    first.count = 3, second.count = 4, both.count = 7;
+    for (int i = 0; i < 3; i++) first.km[i] = 10 + (uint64_t)i, second.km[i] = 200 + 7 * (uint64_t)i, both.km[i] = 210 + 8 * (uint64_t)i;
+    for (int i = 0; i < 60; i++) {
+        /* every other place with a carry */
+        const uint64_t n = (uint64_t)i, more = n % 2;
+        first.grams[i] = 1000 + n, second.grams[i] = 50000 + 7 * n, both.grams[i] = 51000 + 8 * n + more;
+        first.rests[i] = 600000000 + n, second.rests[i] = 100000000 + more * 300000000, both.rests[i] = 700000000 + n - more * 700000000;
+    }
+    joined(first, second, 0, both, "join", 0), joined(second, first, 0, both, "join", 1);
+    joined(first, fresh, 0, first, "join with a fresh run", 0), joined(fresh, first, 0, first, "join with a fresh run", 1);
+    joined(fresh, fresh, 0, fresh, "join of fresh runs", 0);
+    /* the run of two records, added or joined */
+    joined(run, run, 0, haldurap_add(run, record).run, "join of two records", 0);
+    /* L and each X, good by themselves, but another head's */
+    for (int i = 0; i < 17; i++) {
+        bad = second, ((uint64_t *)&bad)[i] += 1;
+        joined(first, bad, HALDURAP_HEADS_DIFFER, first, "join of other heads", i);
+        joined(bad, first, HALDURAP_HEADS_DIFFER, bad, "join of other heads", i);
+    }
+    /* each word out of its range, in either run: before the others */
+    for (int i = 0; i < 141; i++) {
+        bad = second, bad.count = 4998, bad.x[15] += 1, ((uint64_t *)&bad)[i] |= 1ull << 63;
+        joined(first, bad, HALDURAP_RUN_ORDER, first, "join with a damaged word", i);
+        joined(bad, first, HALDURAP_RUN_ORDER, bad, "join with a damaged word", i);
+        joined(bad, bad, HALDURAP_RUN_ORDER, bad, "join with a damaged word", i);
+    }
+    /* 5,000 records together, and one more; other heads come before that */
+    static const uint64_t counts[][2] = {{5000, 0}, {0, 5000}, {4999, 1}, {2500, 2500}, {5000, 1}, {1, 5000}, {2500, 2501}, {5000, 5000}};
+    for (int i = 0; i < 8; i++) {
+        first = second = both = fresh, first.count = counts[i][0], second.count = counts[i][1], both.count = first.count + second.count;
+        joined(first, second, i < 4 ? 0 : HALDURAP_FULL_TOGETHER, i < 4 ? both : first, "join of 5,000 records", i);
+        second.x[0] += 1;
+        joined(first, second, HALDURAP_HEADS_DIFFER, first, "join of 5,000 records", 100 + i);
+    }
+}
+
 /* Lent areas, with numbers in front and behind that no call may touch. */
 static struct lent {
     uint64_t front;
@@ -405,6 +453,15 @@ static void areas(haldurap_run fresh) {
         a = haldurap_area_run(&lent.areas, HALDURAP_AREAS_NUMBERS, (uint64_t)i);
         same(a.number, 0, "area_run", i), same(memcmp(&a.run, &lent.areas.runs[i], sizeof a.run), 0, "run of an area", i);
         stays("areas that were asked", i);
+    }
+    /* joined one after the other: a run with the sixteen records, and the areas stay */
+    haldurap_run all = fresh, single = fresh;
+    for (int i = 0; i < 16; i++) {
+        haldurap_record own = record;
+        own.vehicle_class = (uint64_t)i % 7 + 1, own.vehicles += (uint64_t)i;
+        before = lent, single = haldurap_add(single, own).run;
+        a = haldurap_join(all, haldurap_area_run(&lent.areas, HALDURAP_AREAS_NUMBERS, (uint64_t)i).run), all = a.run;
+        same(a.number, 0, "join of areas", i), same(memcmp(&all, &single, sizeof all), 0, "join of areas", i), stays("areas that were joined", i);
     }
     /* each field of a record is refused with its own number, as in haldurap_add */
     static const uint64_t why[] = {HALDURAP_CLASS, HALDURAP_VEHICLES, HALDURAP_KILOMETRES, HALDURAP_SHARES, HALDURAP_SHARES, HALDURAP_SHARES,
@@ -516,6 +573,7 @@ int main(void) {
     texts();
     lists(run);
     orders(run);
+    joins(fresh, run);
     areas(fresh);
     days();
     printf("C: %d sizes, offsets and values compared, %s\n", checked, failed ? "SOME DIFFER" : "all the same");

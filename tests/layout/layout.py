@@ -74,10 +74,10 @@ def sizes_written(run):
     beforehand, it shows which bytes the archive writes."""
     if platform.machine() != "x86_64" or os.name != "posix":
         return
-    values = {"open": (head(),), "add": (run, record()), "balance": (run, 1, 1, 1000), "sheet": ((c_uint8 * 1)(120), 1),
+    values = {"open": (head(),), "add": (run, record()), "join": (run, run), "balance": (run, 1, 1, 1000), "sheet": ((c_uint8 * 1)(120), 1),
               "report_sheet": ((c_uint8 * 1)(120), 1, (c_uint8 * 17)(), 17), "add_list": (head(), (c_uint64 * 9)(*record().numbers()), 9),
               "area_run": (h.open_areas(head()), h.AREAS_NUMBERS, 15)}
-    for name in ("open", "add", "balance", "map_row", "figure_urban", "figure_rural", "figure_highway", "figure_cold", "sheet", "report_sheet",
+    for name in ("open", "add", "join", "balance", "map_row", "figure_urban", "figure_rural", "figure_highway", "figure_cold", "sheet", "report_sheet",
                  "add_list", "area_run"):
         parameters, answer = h._CALLS[name]
         raw = ctypes.CFUNCTYPE(c_void_p, c_void_p, *parameters)(("haldurap_" + name, h._lib))
@@ -220,6 +220,54 @@ def orders(fresh, run):
         same(h._call("in_order")(h.Run.from_buffer_copy(data)), 0, "in_order of a damaged word")
 
 
+def joins(fresh, run):
+    """Joining: each word of the first and of the second run has its effect at its place; refused, the first comes back."""
+    join = h._call("join")
+
+    def joined(first, second, number, wanted, what):
+        a = join(first, second)
+        same((a.number, bytes(a.run)), (number, bytes(wanted)), what)
+
+    def with_word(run, i, change):
+        words = (c_uint64 * 141).from_buffer_copy(run)
+        words[i] = change(words[i])
+        return h.Run.from_buffer_copy(words)
+
+    first, second, both = changed(fresh, count=3), changed(fresh, count=4), changed(fresh, count=7)
+    for i in range(3):
+        first.km[i], second.km[i], both.km[i] = 10 + i, 200 + 7 * i, 210 + 8 * i
+    for i in range(60):
+        # every other place with a carry
+        more = i % 2
+        first.grams[i], second.grams[i], both.grams[i] = 1000 + i, 50000 + 7 * i, 51000 + 8 * i + more
+        first.rests[i], second.rests[i], both.rests[i] = 600000000 + i, 100000000 + more * 300000000, 700000000 + i - more * 700000000
+    joined(first, second, 0, both, "join")
+    joined(second, first, 0, both, "join")
+    for one in (first, second, both, fresh):
+        joined(one, fresh, 0, one, "join with a fresh run")
+        joined(fresh, one, 0, one, "join with a fresh run")
+    joined(run, run, 0, h.add(run, record()), "join of two records")
+    for i in range(17):
+        # L and each X, good by themselves, but another head's
+        other = with_word(second, i, lambda n: n + 1)
+        joined(first, other, 21, first, "join of other heads")
+        joined(other, first, 21, other, "join of other heads")
+    for i in range(141):
+        # each word out of its range, in either run: before the others
+        bad = with_word(changed(second, count=4998, x=(15, second.x[15] + 1)), i, lambda n: n | 2**63)
+        joined(first, bad, 16, first, "join with a damaged word")
+        joined(bad, first, 16, bad, "join with a damaged word")
+        joined(bad, bad, 16, bad, "join with a damaged word")
+    for one, other in ((5000, 0), (0, 5000), (4999, 1), (2500, 2500), (5000, 1), (1, 5000), (2500, 2501), (5000, 5000)):
+        # 5,000 records together, and one more; other heads come before that
+        first, second = changed(fresh, count=one), changed(fresh, count=other)
+        if one + other <= 5000:
+            joined(first, second, 0, changed(fresh, count=one + other), "join of 5,000 records")
+        else:
+            joined(first, second, 22, first, "join of 5,000 records")
+        joined(first, changed(second, x=(0, second.x[0] + 1)), 21, first, "join of 5,000 records")
+
+
 def numbers_of(lent):
     return (c_uint64 * h.AREAS_NUMBERS).from_buffer_copy(lent)
 
@@ -272,6 +320,13 @@ def areas(fresh):
     for i in range(16):
         a = area_run(good, size, i)
         same((a.number, bytes(a.run)), (0, bytes(good)[1128 * i:1128 * i + 1128]), "area_run")
+    # joined one after the other: a run with the sixteen records
+    joined = single = fresh
+    for i in range(16):
+        single = h.add(single, record(vehicle_class=i % 7 + 1, vehicles=1000 + i))
+        a = h._call("join")(joined, area_run(good, size, i).run)
+        same((a.number, bytes(a.run)), (0, bytes(single)), "join of areas")
+        joined = a.run
     same((good.common, bytes(good.runs)), (0, bytes(good)[:18048]), "Areas")
     # each field of a record is refused with its own number, as in the single add
     for i, why in enumerate((3, 4, 5, 7, 7, 7, 8, 8, 8)):
@@ -360,6 +415,7 @@ def main():
     answers(run)
     lists(fresh, run)
     orders(fresh, run)
+    joins(fresh, run)
     areas(fresh)
     days()
     print("Python: %d sizes, offsets and values compared, %s" % (done, "SOME DIFFER" if failed else "all the same"))

@@ -85,6 +85,10 @@ fn sizes_written(c: &mut Check, run: Run) {
     let raw: extern "C" fn(*mut u8, Run, Record) -> *mut u8 =
         unsafe { transmute(haldurap_add as extern "C" fn(Run, Record) -> RunAnswer) };
     written(c, size_of::<RunAnswer>(), "add", |p| raw(p, run, RECORD));
+    let raw: extern "C" fn(*mut u8, Run, Run) -> *mut u8 = unsafe { transmute(haldurap_join as extern "C" fn(Run, Run) -> RunAnswer) };
+    for trip in [120, 121] {
+        written(c, size_of::<RunAnswer>(), "join", |p| raw(p, run, Run { trip, ..run }));
+    }
     let raw: extern "C" fn(*mut u8, Run, u64, u64, u64) -> *mut u8 =
         unsafe { transmute(haldurap_balance as extern "C" fn(Run, u64, u64, u64) -> BalanceAnswer) };
     written(c, size_of::<BalanceAnswer>(), "balance", |p| raw(p, run, 1, 1, 1000));
@@ -301,6 +305,58 @@ fn orders(c: &mut Check, fresh: Run, run: Run) {
     }
 }
 
+/// Joining: each word of the first and of the second run has its effect at its place; refused, the first comes back.
+fn joins(c: &mut Check, fresh: Run, run: Run) {
+    let mut joined = |first: Run, second: Run, number: u64, run: Run, what: &str| c.same(haldurap_join(first, second), RunAnswer { number, run }, what);
+    let (mut first, mut second, mut both) = (Run { count: 3, ..fresh }, Run { count: 4, ..fresh }, Run { count: 7, ..fresh });
+    for i in 0..3 {
+        let n = i as u64;
+        (first.km[i], second.km[i], both.km[i]) = (10 + n, 200 + 7 * n, 210 + 8 * n);
+    }
+    for i in 0..60 {
+        // every other place with a carry
+        let (n, more) = (i as u64, i as u64 % 2);
+        (first.grams[i], second.grams[i], both.grams[i]) = (1000 + n, 50_000 + 7 * n, 51_000 + 8 * n + more);
+        (first.rests[i], second.rests[i], both.rests[i]) = (600_000_000 + n, 100_000_000 + more * 300_000_000, 700_000_000 + n - more * 700_000_000);
+    }
+    joined(first, second, TAKEN, both, "join");
+    joined(second, first, TAKEN, both, "join");
+    for run in [first, second, both, fresh] {
+        joined(run, fresh, TAKEN, run, "join with a fresh run");
+        joined(fresh, run, TAKEN, run, "join with a fresh run");
+    }
+    // the run of two records, added or joined
+    joined(run, run, TAKEN, haldurap_add(run, RECORD).run, "join of two records");
+    let damaged = |run: Run, i: usize, change: fn(u64) -> u64| -> Run {
+        let mut words: [u64; 141] = unsafe { transmute(run) };
+        words[i] = change(words[i]);
+        unsafe { transmute(words) }
+    };
+    // L and each X, good by themselves, but another head's
+    for i in 0..17 {
+        let other = damaged(second, i, |n| n + 1);
+        joined(first, other, HEADS_DIFFER, first, "join of other heads");
+        joined(other, first, HEADS_DIFFER, other, "join of other heads");
+    }
+    // each word out of its range, in either run: before the others
+    for i in 0..141 {
+        let mut bad = Run { count: 4998, ..second };
+        bad.x[15] += 1;
+        let bad = damaged(bad, i, |n| n | 1 << 63);
+        joined(first, bad, RUN_ORDER, first, "join with a damaged word");
+        joined(bad, first, RUN_ORDER, bad, "join with a damaged word");
+        joined(bad, bad, RUN_ORDER, bad, "join with a damaged word");
+    }
+    // 5,000 records together, and one more; other heads come before that
+    for (one, other) in [(5000, 0), (0, 5000), (4999, 1), (2500, 2500), (5000, 1), (1, 5000), (2500, 2501), (5000, 5000)] {
+        let (first, mut second, both) = (Run { count: one, ..fresh }, Run { count: other, ..fresh }, Run { count: one + other, ..fresh });
+        let (number, run) = if one + other <= MOST_RECORDS { (TAKEN, both) } else { (FULL_TOGETHER, first) };
+        joined(first, second, number, run, "join of 5,000 records");
+        second.x[0] += 1;
+        joined(first, second, HEADS_DIFFER, first, "join of 5,000 records");
+    }
+}
+
 /// Adding to an area and asking for its run give these numbers; a refused add leaves every number, a refused run is zeros.
 fn tried(c: &mut Check, areas: &Areas, area: u64, adding: u64, asking: u64, what: &str) {
     let mut lent = areas.clone();
@@ -367,6 +423,14 @@ fn areas(c: &mut Check, fresh: Run) {
     }
     for i in 0..16 {
         c.same(area_run(&good, i), RunAnswer { number: 0, run: good.runs[i as usize] }, "area_run");
+    }
+    // joined one after the other: a run with the sixteen records
+    let (mut all, mut single) = (fresh, fresh);
+    for i in 0..16 {
+        single = haldurap_add(single, Record { class: i % 7 + 1, vehicles: 1000 + i, ..RECORD }).run;
+        let a = haldurap_join(all, area_run(&good, i).run);
+        c.same(a, RunAnswer { number: 0, run: single }, "join of areas");
+        all = a.run;
     }
     // each field of a record is refused with its own number, as in the single add
     for (i, why) in [CLASS, VEHICLES, KILOMETRES, SHARES, SHARES, SHARES, SPEED, SPEED, SPEED].into_iter().enumerate() {
@@ -489,6 +553,7 @@ fn main() {
     answers(&mut c, run);
     lists(&mut c, fresh, run);
     orders(&mut c, fresh, run);
+    joins(&mut c, fresh, run);
     areas(&mut c, fresh);
     days(&mut c);
     println!("Rust: {} sizes, offsets and values compared, {}", c.done, if c.failed { "SOME DIFFER" } else { "all the same" });

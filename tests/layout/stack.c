@@ -26,6 +26,7 @@ static void nothing(void) { kept = 0; }
 static void layout(void) { kept = haldurap_layout().version; }
 static void open_run(void) { kept = haldurap_open(head).number; }
 static void add(void) { kept = haldurap_add(run, record).number; }
+static void join(void) { kept = haldurap_join(run, run).number; }
 static void add_list(void) { kept = haldurap_add_list(head, numbers, RECORDS * HALDURAP_RECORD_NUMBERS).number; }
 static void in_order(void) { kept = haldurap_in_order(run); }
 static void open_areas(void) { kept = haldurap_open_areas(&other, HALDURAP_AREAS_NUMBERS, head); }
@@ -87,7 +88,7 @@ int main(void) {
         if (haldurap_add_area(&areas, HALDURAP_AREAS_NUMBERS, area, record) != 0) abort();
 
     static const struct { const char *name; void (*work)(void); } calls[] = {
-        {"layout", layout}, {"open", open_run}, {"add", add}, {"add_list", add_list}, {"in_order", in_order},
+        {"layout", layout}, {"open", open_run}, {"add", add}, {"join", join}, {"add_list", add_list}, {"in_order", in_order},
         {"open_areas", open_areas}, {"add_area", add_area}, {"area_run", area_run}, {"total", total},
         {"urban", urban}, {"rural", rural}, {"highway", highway}, {"cold", cold}, {"balance", balance}, {"co2", co2}, {"so2", so2},
         {"lead", lead}, {"map_row", map_row}, {"figure_urban", figure_urban}, {"figure_rural", figure_rural},

@@ -1,5 +1,5 @@
 -- What a run and its reference keep along every history, step by step. Assumes nothing.
-use mathlib.Core.Path.{_≡_, refl, sym, ap, _∙_}
+use mathlib.Core.Path.{_≡_, refl, ap, _∙_}
 use mathlib.Core.Bool.{Bool, true, false, cond}
 use mathlib.Core.List.{List, [], _∷_}
 use Prim.Native.Nat.{ℕ, _+_, _≤_, _<_}
@@ -24,7 +24,7 @@ use Rattle.inventory.proofs.Heads.{x-same}
 use Rattle.inventory.proofs.Kept.{km-at, sum-with, order-kept}
 use Rattle.joins.specs.Joining.{joinNumber, joined, joinRun}
 use Rattle.joins.proofs.Laws.{taken, km-in, sum-in, order-joined}
-use Rattle.accuracy.specs.Reference.{weightOf, exactOf, Reference, acceptable, hasRoom, accepts, empty, withRecord, fed, referenceFrom, referenceOf}
+use Rattle.accuracy.specs.Reference.{exactOf, Reference, acceptable, hasRoom, accepts, empty, withRecord, fed, referenceFrom, referenceOf}
 use Rattle.accuracy.specs.Conditions.{headX, headsDiffer, joiningNumber}
 use Rattle.accuracy.specs.Claim.{runAfter}
 use Rattle.accuracy.specs.History.{History, opened, joins, further, headOf, HeadsTaken, historyRun, together, joinedReference, historyReference}

@@ -86,8 +86,8 @@ module _ (head : Head) (positive : 0 < weightOf head) (xs : List ℕ) (same : (i
   four-near rec o quantity q =
       let e : ℕ = emissionFactor (rec .class) quantity 0 (speedOf rec 0) in
       let cold =
-          cold-near (hasCold (rec .class)) (vehicleKm rec) e (exactX head (rec .class) quantity .numerator) (xDenominator (weightOf head)) (omega (arith, positive))
-          (factor-most (rec .class) quantity 0 (speedOf rec 0) (o .driven 0 (lit< tt)) q (lit< tt)) in
+      cold-near (hasCold (rec .class)) (vehicleKm rec) e (exactX head (rec .class) quantity .numerator) (xDenominator (weightOf head)) (omega (arith, positive))
+      (factor-most (rec .class) quantity 0 (speedOf rec 0) (o .driven 0 (lit< tt)) q (lit< tt)) in
       rw (same (xPlace (rec .class) quantity) (x-below (rec .class) quantity q) ∙ x-rounded head (rec .class) quantity q)
       (record { high = omega (arith, cold .high); low = omega (arith, cold .low) })
 

@@ -1,7 +1,7 @@
 -- Histories: lists of adds, runs joined, and further adds to what that gave, held against the reference (SPECIFICATION, "Accuracy";
 -- document 02, job 6).
 -- Assumes nothing.
-use Prim.Native.Nat.{ℕ, _+_}
+use Prim.Native.Nat.{_+_}
 use mathlib.Core.Path.{_≡_}
 use mathlib.Core.Bool.{true, false, cond}
 use mathlib.Core.List.{List}

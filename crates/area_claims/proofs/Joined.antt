@@ -1,5 +1,5 @@
 -- The runs of areas joined in order, as the run of a history. Assumes nothing.
-use mathlib.Core.Path.{_≡_, refl, sym, _∙_}
+use mathlib.Core.Path.{_≡_, sym, _∙_}
 use mathlib.Core.Bool.{true}
 use mathlib.Core.List.{List}
 use Prim.Native.Nat.{ℕ, zero, suc, _<_}
@@ -19,9 +19,8 @@ use Rattle.area_claims.specs.References.{togetherTo}
 
 -- numbers in order whose runs are those of a list of records for each area, and the references of these lists
 module _ (head : Head) (taken : openNumber head ≡ 0) (lists : ℕ → List Record) (numbers : List ℕ) (order : numbersInOrder numbers ≡ true)
-  (runs : (i : ℕ) → i < 16 → areaRun numbers i ≡ runAfter (openRun head) (lists i))
-  (ts : ℕ → Reference) (references : (i : ℕ) → i < 16 → ts i ≡ referenceOf head (lists i)) where
-
+    (runs : (i : ℕ) → i < 16 → areaRun numbers i ≡ runAfter (openRun head) (lists i))
+    (ts : ℕ → Reference) (references : (i : ℕ) → i < 16 → ts i ≡ referenceOf head (lists i)) where
   historyTo : ℕ → History
   historyTo zero = opened head (lists 0)
   historyTo (suc n) = joins (historyTo n) (opened head (lists (suc n)))

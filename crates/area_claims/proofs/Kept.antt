@@ -8,8 +8,6 @@ use lib.Dec.{eqb}
 use borrow.Author.Tests.{le-leb, lt-leb, eq-eqb, ne-eqb, eqb-true, eqb-false}
 use Rattle.units.specs.Grounds.{firstFit}
 use Rattle.units.proofs.Sums.{le-or-lt, sum-one}
-use Rattle.units.proofs.Tab.{tab-length}
-use Rattle.inventory.specs.declared.Record.{Record}
 use Rattle.inventory.specs.declared.Run.{Run}
 use Rattle.inventory.specs.Records.{recordGrounds}
 use Rattle.inventory.specs.Limits.{Shaped}

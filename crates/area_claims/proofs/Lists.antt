@@ -9,12 +9,10 @@ use lib.ListN.{length}
 use borrow.Author.Tests.{eqb-true, eqb-false}
 use Rattle.units.specs.Lists.{sumTo}
 use Rattle.units.specs.Grounds.{firstFit}
-use Rattle.units.proofs.Tab.{tab-length}
-use Rattle.classes.specs.Classes.{xCount}
 use Rattle.inventory.specs.declared.Head.{Head}
 use Rattle.inventory.specs.Limits.{Shaped}
 use Rattle.inventory.specs.Order.{inOrder}
-use Rattle.inventory.specs.Opening.{openNumber, openRun, freshRun, zeroRun, emptyRun}
+use Rattle.inventory.specs.Opening.{openNumber, openRun}
 use Rattle.inventory.specs.Adding.{addRun}
 use Rattle.inventory.proofs.Heads.{head-self}
 use Rattle.inventory.proofs.Runs.{shaped-opened}

@@ -20,7 +20,6 @@ use Rattle.areas.specs.Areas.{areaOk, areasInOrder, commonUse, countsOf, beyond
 use Rattle.areas.specs.Numbers.{runAt, areasOf}
 use Rattle.areas.specs.Calls.{numbersInOrder}
 use Rattle.areas.proofs.Numbers.{trip-read, count-read, km-read}
-use Rattle.areas.proofs.Order as order
 
 -- ---- one number of the run at a place
 

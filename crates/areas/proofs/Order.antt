@@ -1,17 +1,15 @@
 -- Laws of the order of areas: what areas in order have, and what makes them so. Assumes nothing.
-use mathlib.Core.Path.{_≡_, refl, ap}
+use mathlib.Core.Path.{_≡_, ap}
 use mathlib.Core.Bool.{true, _&&_}
 use mathlib.Core.List.{List}
 use Prim.Native.Nat.{ℕ, _-_, _≤_, _<_}
 use native.Mathlib.Omega.{arith}
 use lib.Dec.{leb, eqb}
-use lib.ListN.{length, getD}
+use lib.ListN.{length}
 use borrow.Author.Tests.{le-leb, eq-eqb, eqb-true, leb-true}
 use Rattle.units.specs.Lists.{allBelow, sumTo}
 use Rattle.units.proofs.Sums.{all-alike, sum-alike, sum-beyond, term-most}
 use Rattle.units.proofs.Tests.{all, at, and-left, and-right}
-use Rattle.classes.specs.Classes.{xCount}
-use Rattle.inventory.specs.declared.Run.{Run}
 use Rattle.inventory.specs.Limits.{Shaped}
 use Rattle.inventory.specs.Order.{inOrder, sameHead}
 use Rattle.areas.specs.Areas.{Areas, areaCount, commonLimit, countsOf, beyondOwn, commonUse, areaOk, areasInOrder}

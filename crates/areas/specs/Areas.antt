@@ -5,10 +5,8 @@ use Prim.Native.Nat.{ℕ, _+_, _-_}
 use mathlib.Core.Bool.{Bool, cond, _&&_}
 use mathlib.Core.List.{List, [], _∷_, _++_}
 use lib.Dec.{leb, eqb}
-use lib.ListN.{getD}
 use Rattle.units.specs.Lists.{allBelow, sumTo}
 use Rattle.units.specs.Grounds.{Ground, ground}
-use Rattle.classes.specs.Classes.{xCount}
 use Rattle.inventory.specs.declared.Head.{Head}
 use Rattle.inventory.specs.declared.Record.{Record}
 use Rattle.inventory.specs.declared.Run.{Run}

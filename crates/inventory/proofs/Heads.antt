@@ -6,7 +6,7 @@ use lib.Dec.{eqb}
 use lib.ListN.{getD}
 use borrow.Author.Tests.{eq-eqb, ne-eqb, eqb-true}
 use Rattle.units.specs.Lists.{allBelow}
-use Rattle.units.proofs.Tests.{all, at, and-false, and-left, and-right}
+use Rattle.units.proofs.Tests.{all, at, and-left, and-right}
 use Rattle.classes.specs.Classes.{xCount}
 use Rattle.inventory.specs.declared.Run.{Run}
 use Rattle.inventory.specs.Order.{sameX, sameHead}

@@ -199,11 +199,7 @@ fn changed(b: &[u8], at: usize, runs: Runs, numbers: &[u64]) -> Runs {
     }
     // take R AREA
     if c == b't' {
-        return with_run(
-            runs,
-            k,
-            taking(numbers, harness_lines::number(b, at, 2)),
-        );
+        return with_run(runs, k, taking(numbers, harness_lines::number(b, at, 2)));
     }
     runs
 }

@@ -2,7 +2,6 @@
 ghost use mathlib.Core.Path.{_≡_};
 ghost use Prim.Native.Nat.{_+_, _*_, _≤_, _<_};
 ghost use Rattle.units.specs.Refusals.{verdictNumber};
-ghost use Rattle.inventory.specs.Order.{sameHead};
 ghost use Rattle.inventory.specs.Adding.{billionths};
 ghost use Rattle.inventory.specs.Limits.{RunLimits};
 ghost use Rattle.joins.specs.Joining.{joinNumber, joined, joinRun};
@@ -10,46 +9,8 @@ use inventory::Amount;
 use inventory::Run;
 use joins::Joined;
 use units::Grams;
-use units::Refusal;
 use units::VehicleKm;
 use units::Verdict;
-
-// Whether L and all X of two runs agree.
-fn same_head(a: Run, b: Run) -> bool
-    ensures { λ r. ⌜ r ≡ sameHead a b ⌝ }
-{
-    if a.trip != b.trip {
-        return false;
-    }
-    let mut k: usize = 0;
-    while k < 16 {
-        if a.x[k] != b.x[k] {
-            return false;
-        }
-        k += 1;
-    }
-    true
-}
-
-// Whether a join is refused: 16 of either run, then 21, then 22.
-fn join_verdict(a: Run, b: Run) -> Verdict
-    ensures { λ v. ⌜ verdictNumber v ≡ joinNumber a b ⌝ }
-{
-    if !order::in_order(a) {
-        return Verdict::Refused(Refusal::RunOrder);
-    }
-    if !order::in_order(b) {
-        return Verdict::Refused(Refusal::RunOrder);
-    }
-    if !same_head(a, b) {
-        return Verdict::Refused(Refusal::HeadsDiffer);
-    }
-    let together = a.count + b.count;
-    if 5000 < together {
-        return Verdict::Refused(Refusal::FullTogether);
-    }
-    Verdict::Taken
-}
 
 // Two sums of grams and billionths in one. The carry without a branch: s + 73,741,824 reaches 2^30 where s reaches 10^9.
 fn both(g: Grams, r: u64, h: Grams, t: u64) -> Amount
@@ -99,7 +60,7 @@ pub fn join(a: Run, b: Run) -> Joined
     ensures number { λ r. ⌜ verdictNumber (r .verdict) ≡ joinNumber a b ⌝ }
     ensures run { λ r. ⌜ r .run ≡ joinRun a b ⌝ }
 {
-    let v = join_verdict(a, b);
+    let v = join_verdicts::join_verdict(a, b);
     match v {
         Verdict::Refused(x) => {
             return Joined {

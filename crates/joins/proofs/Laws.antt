@@ -117,8 +117,7 @@ pub record Several (runs : ℕ → Run) (n : ℕ) (run : Run) : Type 0 where
   pub count : run .count ≡ sumTo (λ i. runs i .count) (suc n)
 
 module _ (runs : ℕ → Run) (m : ℕ) (order : (i : ℕ) → i ≤ m → inOrder (runs i) ≡ true) (heads : (i : ℕ) → i ≤ m → sameHead (runs 0) (runs i) ≡ true)
-  (few : sumTo (λ i. runs i .count) (suc m) ≤ 5000) where
-
+    (few : sumTo (λ i. runs i .count) (suc m) ≤ 5000) where
   next-taken : (n : ℕ) (run : Run) → n < m → Several runs n run → joinNumber run (runs (suc n)) ≡ 0
   unfolding sumTo
   next-taken n run h s =

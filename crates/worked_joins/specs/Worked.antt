@@ -8,7 +8,6 @@ use lib.IntN.{ℤ, pos, negℤ}
 use lib.ListN.{replicate}
 use Rattle.units.specs.Lists.{tab}
 use Rattle.units.specs.Fractions.{over}
-use Rattle.calendar.specs.declared.Period.{Period}
 use Rattle.calendar.specs.declared.Period.the-variants as period
 use Rattle.calendar.specs.Periods.{days}
 use Rattle.inventory.specs.declared.Head.{Head}

@@ -1,4 +1,4 @@
--- `joining::same_head` meets its contract. Assumes nothing.
+-- `join_verdicts::same_head` meets its contract. Assumes nothing.
 use mathlib.Core.Path.{_≡_, refl, sym, _∙_}
 use mathlib.Core.Bool.{true}
 use Prim.Native.Nat.{_≤_, _-_}
@@ -10,8 +10,8 @@ use Rattle.classes.specs.Classes.{xCount}
 use Rattle.inventory.specs.Order.{sameX}
 use Rattle.inventory.proofs.Heads.{trip-differs, by-x}
 use borrow.Author.Needs.{needs}
-use Rattle.joining.proofs.same_head.Statement.{statement}
-use Rattle.joining.proofs.same_head.Tie as tie
+use Rattle.join_verdicts.proofs.same_head.Statement.{statement}
+use Rattle.join_verdicts.proofs.same_head.Tie as tie
 
 abbrev Inv-loop : tie.InvT-loop
 Inv-loop a b k₀ k = (k ≤ xCount) × (allBelow (sameX a b) k ≡ true)

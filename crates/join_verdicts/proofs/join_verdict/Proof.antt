@@ -1,4 +1,4 @@
--- `joining::join_verdict` meets its contract. Assumes nothing.
+-- `join_verdicts::join_verdict` meets its contract. Assumes nothing.
 use mathlib.Core.Path.{sym, _∙_}
 use native.Mathlib.Omega.{arith}
 use borrow.Author.Tests.{not-true, not-false}
@@ -6,8 +6,8 @@ use Rattle.units.specs.Refusals.{verdictNumber, refusalNumber}
 use Rattle.inventory.proofs.Order.{count-of}
 use Rattle.joins.proofs.Laws.{first-unordered, second-unordered, heads-differ, too-many, good-join}
 use borrow.Author.Needs.{needs}
-use Rattle.joining.proofs.join_verdict.Statement.{statement}
-use Rattle.joining.proofs.join_verdict.Tie as tie
+use Rattle.join_verdicts.proofs.join_verdict.Statement.{statement}
+use Rattle.join_verdicts.proofs.join_verdict.Tie as tie
 
 in-order-requires : tie.Need-in-order-requires
 in-order-requires c κs = search needs
