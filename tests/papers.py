@@ -151,7 +151,7 @@ def cited():
                 there = "%s/%s" % (folder, path) in specs
             same("%s: %s is there" % (name, path), there, True)
         for word in re.findall(r"`(\w+)`", lines[0] if lines else ""):
-            defined = re.search(r"^\s*(?:unfoldable |abbrev )?pub (?:record |abbrev )?%s\b" % word, everything, re.M)
+            defined = re.search(r"^\s*(?:unfoldable |abbrev )?pub (?:record |data |abbrev )?%s\b" % word, everything, re.M)
             declared = any(re.search(r"\bpub (?:struct|enum|fn) %s\b" % word, read(os.path.relpath(path, ROOT))) for path in glob.glob(os.path.join(ROOT, "crates", "*", "src", "lib.rt")))
             same("%s: %s is defined" % (name, word), bool(defined) or declared, True)
     for path in re.findall(r"crates/\w+/specs/\w+\.antt", README):

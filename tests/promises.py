@@ -50,12 +50,12 @@ def files(pattern):
 
 DEFINITION = re.compile(r"^(?:(?:abbrev|unfoldable|opaque|pub) )*([^\s:(){}=]+)(?: *\([^)]*\)| *\{[^}]*\})* *: ")
 INNER = re.compile(r"^ +(?:(?:abbrev|unfoldable|opaque) )*pub (?:(?:abbrev|unfoldable|opaque) )*([^\s:(){}=]+) : ")
-RECORD = re.compile(r"^(?:pub )?record ([^\s:(){}]+)")
+RECORD = re.compile(r"^(?:pub )?(?:record|data) ([^\s:(){}]+)")
 FIELD = re.compile(r"^ +(?:pub )?([^\s:(){}=]+) : ")
 
 
 # Records that claims are made of.
-PARTS = ("EveryList", "EveryAreasList", "AreasAfter", "SameReport", "KindsNear", "StatedForm", "ListGives", "WithinDistance")
+PARTS = ("EveryList", "EveryAreasList", "AreasAfter", "SameReport", "KindsNear", "StatedForm", "ListGives", "HistoryGives", "WithinDistance", "Both", "Associates", "Neutral")
 
 
 class Names:

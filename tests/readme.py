@@ -3,7 +3,7 @@ command that stands under it, and must print what the README says.
 
     python3 tests/readme.py
 
-A program is a fenced block behind a line that names it, "`first.X`, ..." or "`areas.X`, ..."; the next indented line is its command, and the sentence behind that,
+A program is a fenced block behind a line that names it, "`first.X`, ..", "`areas.X`, .." or "`joins.X`, .."; the next indented line is its command, and the sentence behind that,
 "prints ..", names lines of its output between backticks, or "the report above". Needs the archive. Exits 1 where one differs.
 """
 import os
@@ -14,7 +14,7 @@ import sys
 import tempfile
 
 ROOT = os.path.normpath(os.path.join(os.path.dirname(os.path.abspath(__file__)), ".."))
-PROGRAM = re.compile(r"^(?:[^`\n]*\. )?`((?:first|areas)\.\w+)`[^\n]*\n\n```\w+\n(.*?)^```\n\n    ([^\n]+)\n\n(prints [^\n]+?\.)(?:\s|$)", re.M | re.S)
+PROGRAM = re.compile(r"^(?:[^`\n]*\. )?`((?:first|areas|joins)\.\w+)`[^\n]*\n\n```\w+\n(.*?)^```\n\n    ([^\n]+)\n\n(prints [^\n]+?\.)(?:\s|$)", re.M | re.S)
 REPORT = re.compile(r"(?:^     1 .*\n)+", re.M)
 
 
@@ -23,7 +23,7 @@ def main():
         readme = file.read()
     report = [line[4:] for line in REPORT.search(readme).group().splitlines()]
     programs = PROGRAM.findall(readme)
-    failed = 0 if sorted(name for name, *_ in programs) == ["areas.c", "first.c", "first.py", "first.rs"] else 1
+    failed = 0 if sorted(name for name, *_ in programs) == ["areas.c", "first.c", "first.py", "first.rs", "joins.c"] else 1
     with tempfile.TemporaryDirectory() as folder:
         # include/ and sheets/ as they are; a target/ of its own, so that nothing is written to ours
         for name in ("include", "sheets"):
