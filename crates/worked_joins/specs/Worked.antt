@@ -36,13 +36,13 @@ exchangedHead = fourMonths (pos 72) (negℤ (pos 101)) (negℤ (pos 30)) (negℤ
 abbrev pub exampleDays : ℕ → ℕ → Head
 exampleDays first last = record { trip = 120; temps = replicate 12 (pos 100); period = period.Days (days first last) }
 
--- one record of each crew, the second under its own head
-abbrev pub town : History
-town = joins (opened firstHead (exampleOf 4 ∷ [])) (opened secondHead (exampleOf 4 ∷ []))
+-- one record under each of the two heads, joined
+abbrev pub twoHeads : History
+twoHeads = joins (opened firstHead (exampleOf 4 ∷ [])) (opened secondHead (exampleOf 4 ∷ []))
 
 -- then a refused record and one more, measured by the second head
-abbrev pub townLater : History
-townLater = further town secondHead (exampleOf 0 ∷ exampleOf 4 ∷ [])
+abbrev pub twoHeadsLater : History
+twoHeadsLater = further twoHeads secondHead (exampleOf 0 ∷ exampleOf 4 ∷ [])
 
 -- a head without dates, one of 28 days and one of 365
 abbrev pub threePeriods : History
@@ -50,9 +50,9 @@ threePeriods =
     joins (joins (opened exampleHead (exampleOf 2 ∷ [])) (opened (exampleDays 20260201 20260228) (exampleOf 2 ∷ [])))
     (opened (exampleDays 20260101 20261231) (exampleOf 2 ∷ []))
 
--- two heads that differ
-abbrev pub strangers : History
-strangers = joins (opened exampleHead (exampleOf 2 ∷ [])) (opened firstHead (exampleOf 4 ∷ []))
+-- the runs of two heads that differ
+abbrev pub unlikeHeads : History
+unlikeHeads = joins (opened exampleHead (exampleOf 2 ∷ [])) (opened firstHead (exampleOf 4 ∷ []))
 
 -- the totals that the run of a history prints (fuel × 5 + quantity), and the reference's count and kilometres
 pub record HistoryGives (h : History) (printed : List ℕ) (count : ℕ) (km : List ℕ) : Type 0 where
@@ -64,17 +64,17 @@ pub record WorkedJoinsClaim : Type 0 where
   -- the heads go together, and opening takes them all
   pub alike : headsDiffer firstHead secondHead ≡ false
   pub exchanged-alike : headsDiffer firstHead exchangedHead ≡ false
-  pub taken : HeadsTaken townLater
+  pub taken : HeadsTaken twoHeadsLater
   pub periods-taken : HeadsTaken threePeriods
   -- LPG NOX of two records, each by its own head: neither what both are by the first nor what both are by the second
-  pub each-by-its-own : historyReference town .exact 2 1 ≡ over 82740319753430400000000000000 12000000000000000000000
+  pub each-by-its-own : historyReference twoHeads .exact 2 1 ≡ over 82740319753430400000000000000 12000000000000000000000
   pub both-by-the-first : historyReference (opened firstHead (exampleOf 4 ∷ exampleOf 4 ∷ [])) .exact 2 1 ≡ over 82740319773484800000000000000 12000000000000000000000
   pub both-by-the-second : historyReference (opened secondHead (exampleOf 4 ∷ exampleOf 4 ∷ [])) .exact 2 1 ≡ over 82740319733376000000000000000 12000000000000000000000
-  pub two-records : HistoryGives town
+  pub two-records : HistoryGives twoHeads
       (0 ∷ 0 ∷ 0 ∷ 0 ∷ 0 ∷ 0 ∷ 0 ∷ 0 ∷ 0 ∷ 0 ∷ 56693006 ∷ 6895026 ∷ 6015562 ∷ 0 ∷ 1118523384 ∷ []) 2 (0 ∷ 0 ∷ 20000000 ∷ [])
   -- further adds by the second head; by the first it would be 124,110,479,640,172,800,000,000,000,000
-  pub later-by-its-own : historyReference townLater .exact 2 1 ≡ over 124110479620118400000000000000 12000000000000000000000
-  pub three-records : HistoryGives townLater
+  pub later-by-its-own : historyReference twoHeadsLater .exact 2 1 ≡ over 124110479620118400000000000000 12000000000000000000000
+  pub three-records : HistoryGives twoHeadsLater
       (0 ∷ 0 ∷ 0 ∷ 0 ∷ 0 ∷ 0 ∷ 0 ∷ 0 ∷ 0 ∷ 0 ∷ 85039509 ∷ 10342539 ∷ 9023343 ∷ 0 ∷ 1677785076 ∷ []) 3 (0 ∷ 0 ∷ 30000000 ∷ [])
   -- gasoline CO over three denominators, multiplied out
   pub three-denominators : historyReference threePeriods .exact 0 0
@@ -83,8 +83,8 @@ pub record WorkedJoinsClaim : Type 0 where
       (81396546 ∷ 12586161 ∷ 5759328 ∷ 0 ∷ 2886707580 ∷ 0 ∷ 0 ∷ 0 ∷ 0 ∷ 0 ∷ 0 ∷ 0 ∷ 0 ∷ 0 ∷ 0 ∷ []) 3 (30000000 ∷ 0 ∷ 0 ∷ [])
   -- a refused join counts as its first
   pub heads-refused : joinNumber (historyRun (opened exampleHead (exampleOf 2 ∷ []))) (historyRun (opened firstHead (exampleOf 4 ∷ []))) ≡ 21
-  pub first-alone : historyReference strangers .exact 0 0 ≡ over 325586181600000000000000000000 12000000000000000000000
-  pub one-record : HistoryGives strangers
+  pub first-alone : historyReference unlikeHeads .exact 0 0 ≡ over 325586181600000000000000000000 12000000000000000000000
+  pub one-record : HistoryGives unlikeHeads
       (27132182 ∷ 4195387 ∷ 1919776 ∷ 0 ∷ 962235860 ∷ 0 ∷ 0 ∷ 0 ∷ 0 ∷ 0 ∷ 0 ∷ 0 ∷ 0 ∷ 0 ∷ 0 ∷ []) 1 (10000000 ∷ 0 ∷ 0 ∷ [])
   -- 5,000 records together are taken, 5,001 are not
   pub together-taken : joinNumber (historyRun (opened exampleHead (many 3000))) (historyRun (opened exampleHead (many 2000))) ≡ 0
