@@ -173,7 +173,8 @@ typedef struct haldurap_record {
        rests       each 0 to 999,999,999
    That is all that 16 sees. It cannot see a value that is wrong inside these ranges: a flipped bit, two
    exchanged sums, an x of another head, a record counted twice. Such a run is taken, and the figures
-   are those of the wrong values. Only haldurap_join compares the trip and x of two runs (21), and nothing else.
+   are those of the wrong values. haldurap_join compares the trip and x of its two runs (21), the calls that read
+   areas those of all sixteen (16); nothing else is compared.
    A program that keeps runs in files adds a checksum of its own. */
 typedef struct haldurap_run {
     uint64_t trip;              /*   0  L of the head */
@@ -296,8 +297,8 @@ HALDURAP_ANSWER haldurap_run_answer haldurap_add(haldurap_run run, haldurap_reco
    answer's run are theirs added up, exact to the billionth of a gram; trip and x are those of both.
    Runs may be joined if L and all 16 X agree, as they do where both were opened with the same head, and if they
    have at most 5,000 records together. Nothing else of a head is compared: other heads may come to the same L and
-   X, as with exchanged months. The distance of a printed total from the exact sum holds over both lists together,
-   each record measured by the head that it was added under.
+   X, as where months of equal weight are exchanged. The distance of a printed total from the exact sum holds over
+   both lists together, each record measured by the head that it was added under.
    Where no join is refused, neither order nor grouping matters: joining is commutative and associative, byte for
    byte, and a fresh run of the same head on either side changes nothing. The answer's run may be asked, added to
    and joined as any other; a later haldurap_add goes by the run's own L and X.

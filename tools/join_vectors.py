@@ -81,7 +81,13 @@ APART = [
     ([(1, ref.FC), (3, ref.FC)], (200, (300, 302, 310, 310, 340, 350, 350, 351, 354, 360, 398, 400)),
      (200, (300, 300, 301, 302, 310, 335, 340, 369, 390, 398, 398, 399))),
     ([(1, ref.CO), (1, ref.VOC), (2, ref.CO), ref.CLASS_3_CO], summer(297, 301, 302), summer(298, 299, 303)),
+    # by the days of two years: CO of class 3 is rounded by itself
+    ([ref.CLASS_3_CO], (161, (100, 70, 104, 81, 58, 74, 75, 56, 100, 32, 25, 65), 20260101, 20261231),
+     (161, (76, 70, 109, 102, 87, 34, 68, 64, 54, 61, 90, 25), 20000101, 20001231)),
 ]
+# Two heads that differ in L alone: all X are the same.
+OTHER_TRIP = ((96, (302, 313, 339, 367, 374, 387, 393, 393, 394, 399, 399, 400)),
+              (98, (360, 362, 364, 365, 368, 368, 368, 368, 368, 370, 374, 382)))
 
 
 def differing(one, other, x_of):
@@ -400,6 +406,11 @@ def heads_differ(c):
         c.both_ways(2, 0, 1, 21)
         c.open(0, one)
         c.both_ways(2, 0, 1, 21)
+    one, other = OTHER_TRIP
+    assert differing(one, other, ref.rounded_x) == [] and one[0] != other[0]
+    c.opened(0, one)
+    c.opened(1, other)
+    c.both_ways(2, 0, 1, 21)
     for other in ((121, MILD), (119, MILD), (10, MILD), (200, MILD), (120, [100] * 11 + [101])):
         c.opened(0, (120, MILD))
         c.opened(1, other)

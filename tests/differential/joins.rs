@@ -33,7 +33,7 @@ impl Tried {
         let Tried { trees, lists, of_areas, further, held, own_heads, exchanged, shapes, fresh, made, out_of_order, areas, .. } = self;
         format!(
             "trees of histories: {trees}, with {lists} lists ({of_areas} of areas), {further} adds to joined runs; histories held against exact \
-             sums: {held}, {own_heads} of them with heads of other sums\njoins exchanged: {exchanged}, in both shapes: {shapes}, with a fresh run: \
+             sums: {held}, {own_heads} of them with cold grams by two heads of other sums\njoins exchanged: {exchanged}, in both shapes: {shapes}, with a fresh run: \
              {fresh}; pairs made up: {made}; pairs out of order: {out_of_order}; sixteen areas joined: {areas}"
         )
     }
@@ -552,10 +552,9 @@ fn out_of_order(held: &mut Held, r: &mut Random, step: usize) {
     while few.theirs.in_order() && few.ours.count > 0 {
         few = few.with(&[(COUNT, few.ours.count / 2)]);
     }
-    if !few.theirs.in_order() {
-        let (number, _) = join_exchanged(held, &first, &few);
-        edge(held, 16, true, number);
-    }
+    assert!(!few.theirs.in_order());
+    let (number, _) = join_exchanged(held, &first, &few);
+    edge(held, 16, true, number);
     // counts that would fit if they wrapped
     for count in [u64::MAX, u64::MAX - 38, 1 << 63, 1 << 32] {
         let (number, _) = join_exchanged(held, &first, &second.with(&[(COUNT, count)]));
@@ -620,7 +619,41 @@ fn doubled(held: &mut Held, r: &mut Random, times: u64) {
     }
 }
 
+/// Whose head measures, by exact sums: every head with the same L and X keeps the distance, so nothing else can tell. The pair of
+/// heads of SPECIFICATION, "Joining", whose sums behind X of LPG NOX differ.
+fn own_heads() {
+    let year = |four: [i64; 4]| plain::Head::year(200, std::array::from_fn(|k| if k < 4 { four[k] } else { 100 }));
+    let (one, other) = (year([-121, -101, -30, 72]), year([-168, -46, 15, 19]));
+    let van = plain::Record { class: 4, vehicles: 1000, km: 10_000, shares: [40, 40, 20], speeds: [20, 60, 100] };
+    let of = |head: &plain::Head, records: u64| {
+        let mut history = plain::History::of(head);
+        (0..records).for_each(|_| history.add(&van).unwrap());
+        history
+    };
+    // LPG NOX in grams and ten millionths of a gram
+    let is = |history: &plain::History, grams: u128, rest: u128| {
+        let (whole, parts, common) = history.exact(2, 1);
+        assert_eq!((whole + parts / common, parts % common * 10_000_000), (grams, rest * common));
+    };
+    is(&of(&one, 2), 6_895_026, 6_477_904);
+    is(&of(&other, 2), 6_895_026, 6_444_480);
+    for (first, second) in [(&one, &other), (&other, &one)] {
+        let mut both = of(first, 1);
+        both.join(&of(second, 1)).unwrap();
+        assert!(both.has_own_heads());
+        is(&both, 6_895_026, 6_461_192);
+        // a further add, by the one and by the other
+        for (head, rest) in [(&one, 9_700_144), (&other, 9_683_432)] {
+            let mut later = both.clone();
+            later.measure_by(head);
+            later.add(&van).unwrap();
+            is(&later, 10_342_539, rest);
+        }
+    }
+}
+
 pub fn joins(held: &mut Held, r: &mut Random, small: bool) {
+    own_heads();
     let part = if small { 100 } else { 1 };
     trees(held, r, 12_000 / part, if small { 2 } else { 160 });
     made_up(held, r, 20_000 / part);

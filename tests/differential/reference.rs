@@ -692,17 +692,17 @@ impl History {
         Ok(())
     }
 
-    /// Whether some records would come to another sum if they were measured by another head of the history.
+    /// Whether two heads with other sums behind an X have brought cold grams that go by it.
     pub fn has_own_heads(&self) -> bool {
-        let (_, one) = &self.tallies[0];
-        // cold sums over the weights of all months, compared with the weights multiplied out
-        let differ = |other: &Tally| (0..15).any(|i| one.sums.as_flattened()[i] * other.part != other.sums.as_flattened()[i] * one.part);
-        self.tallies.iter().any(|(_, other)| differ(other))
+        (0..15).any(|i| {
+            let mut cold = self.tallies.iter().map(|(_, tally)| tally).filter(|tally| tally.cold.as_flattened()[i] > 0);
+            // sums over the weights of all months, compared with the weights multiplied out
+            cold.next().is_some_and(|one| cold.any(|other| one.sums.as_flattened()[i] * other.part != other.sums.as_flattened()[i] * one.part))
+        })
     }
 
-    /// Whether a printed total lies within half a gram and 1.5 g for ten million kilometres of the exact sum.
-    pub fn is_near(&self, fuel: usize, quantity: usize, printed: u64) -> bool {
-        // whole grams, and parts of one over a common multiple of all that the heads have
+    /// The exact sum: whole grams, and parts of one over a common multiple of all that the heads have, which comes last.
+    pub fn exact(&self, fuel: usize, quantity: usize) -> (u128, u128, u128) {
         let common = self.tallies.iter().fold(1, |common, (_, tally)| common / gcd(common, tally.part) * tally.part);
         let (mut grams, mut parts) = (0, 0);
         for (_, tally) in &self.tallies {
@@ -710,6 +710,12 @@ impl History {
             grams += exact / tally.part;
             parts += exact % tally.part * (common / tally.part);
         }
+        (grams, parts, common)
+    }
+
+    /// Whether a printed total lies within half a gram and 1.5 g for ten million kilometres of the exact sum.
+    pub fn is_near(&self, fuel: usize, quantity: usize, printed: u64) -> bool {
+        let (grams, parts, common) = self.exact(fuel, quantity);
         let apart = (printed as u128).abs_diff(grams);
         // further than any total may lie, so that nothing below has more than 128 bits
         if apart > 1_000_000 {

@@ -1,4 +1,4 @@
--- The conditions of SPECIFICATION, "Refusals", number by number in its words, over plain numbers.
+-- The conditions of SPECIFICATION, "Refusals", number by number in its words, over plain numbers, periods and heads.
 -- They are written out apart from the lists of grounds that the calls go by, so that a wrong ground there breaks the claim.
 -- Assumes nothing.
 use Prim.Native.Nat.{ℕ, zero, suc, _+_, _*_, _/_, _%_}

@@ -41,7 +41,7 @@ pub record AreasAfter (head : Head) (adds : List AreaAdd) (numbers : List ℕ) (
   pub each : (i : ℕ) → i < 16 → ListClaim (areaRun numbers i) (references i)
   -- and that reference is the single run's: the run of an area is the run of a history, to be joined as any other
   pub reference : (i : ℕ) → i < 16 → references i ≡ referenceOf head (acceptedIn i adds)
-  -- the same holds of the runs of the areas 0 to n joined in order, none refused, with their references added up
+  -- the same holds of the runs of the areas 0 to n joined in order (no join is refused: JoinClaim.areas), with their references added up
   pub joined : (n : ℕ) → n < 16 → ListClaim (joinedTo (areaRun numbers) n) (togetherTo references n)
 
 -- each record occurs equally often among the accepted ones of an area in both lists

@@ -24,13 +24,13 @@ use Rattle.joins.specs.Joining.{joinGrounds, joinNumber, slotJoined, kmJoined, 
 use Rattle.accuracy.specs.Conditions.{someXDiffers, headsDiffer, fullTogether, joiningNumber}
 use Rattle.accuracy.specs.Reference.{acceptable, hasRoom, accepts, exactHot, exactCold, exactOf, empty, withRecord, fed, referenceFrom, referenceOf, accepted}
 use Rattle.accuracy.specs.Claim.{runAfter}
-use Rattle.accuracy.specs.History.{opened, headOf, historyRun, together, joinedReference, historyReference}
+use Rattle.accuracy.specs.History.{opened, headOf, HeadsTaken, historyRun, together, joinedReference, historyReference}
 use Rattle.accuracy.specs.Numbers.{exampleHead}
 use Rattle.accuracy.proofs.Whole.{history}
 use Rattle.worked.specs.Worked.{many}
 use Rattle.worked.proofs.Closed.{reference-count}
 use Rattle.worked.proofs.Worked.{many-length, many-accepted, taken}
-use Rattle.worked_joins.specs.Worked.{WorkedJoinsClaim}
+use Rattle.worked_joins.specs.Worked.{tooMany, WorkedJoinsClaim}
 
 -- ---- full runs, joined
 
@@ -48,17 +48,22 @@ unfolding headOf historyReference joiningNumber fullTogether
 join-many m n h k =
     history .number (opened exampleHead (many m)) (opened exampleHead (many n)) taken taken ∙ rw (same-head, count-many m h, count-many n k)
 
+many-taken : HeadsTaken tooMany
+many-taken = (taken, taken)
+
 pub worked-joins : WorkedJoinsClaim
 unfolding isLeap monthLength noDay dayNumber daysIn daysOf tab allBelow sumTo outside firstFit halfUp plus fuelOf hasCold hasOwnX betaReduction xPlace coefficients twoStroke quadratic curve emissionFactor temperatureOk coldShare slopes coldRatio coldExcess monthProduct coldSum xFrom coldX coldFactor periodGrounds temperaturesWrong headGrounds vehicleKm sharesWrong speedsWrong recordGrounds sumAt sumWithin inOrder sameHead billionths hotPart coldRate coldPart partOf partAt slotAfter kmOf kmAfter runWith addGrounds addNumber addRun emptyRun freshRun openNumber openRun exactTotal printedTotal totalGrounds answered totalOf joinGrounds joinNumber slotJoined kmJoined joined joinRun someXDiffers headsDiffer fullTogether joiningNumber acceptable hasRoom accepts exactHot exactCold exactOf empty withRecord fed referenceFrom referenceOf runAfter headOf historyRun together joinedReference historyReference
 worked-joins =
     record {
       alike = refl;
-      exchanged-alike = refl;
       taken = ((refl, refl), refl, refl);
       periods-taken = ((refl, refl), refl);
+      unlike-taken = (refl, refl);
+      many-taken = many-taken;
       each-by-its-own = refl;
       both-by-the-first = refl;
       both-by-the-second = refl;
+      exchanged-months = refl;
       two-records = record { totals = refl; counted = refl; distance = refl };
       later-by-its-own = refl;
       three-records = record { totals = refl; counted = refl; distance = refl };

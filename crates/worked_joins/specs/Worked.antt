@@ -22,13 +22,14 @@ use Rattle.worked.specs.Worked.{many}
 abbrev pub fourMonths : ℤ → ℤ → ℤ → ℤ → Head
 fourMonths a b c d = record { trip = 200; temps = a ∷ b ∷ c ∷ d ∷ replicate 8 (pos 100); period = period.Year }
 
--- two heads with one L and all X alike, whose unrounded X of LPG NOX differ, and the first with two months exchanged
+-- two heads with one L and all X alike, whose unrounded X of LPG NOX differ
 abbrev pub firstHead : Head
 firstHead = fourMonths (negℤ (pos 121)) (negℤ (pos 101)) (negℤ (pos 30)) (pos 72)
 
 abbrev pub secondHead : Head
 secondHead = fourMonths (negℤ (pos 168)) (negℤ (pos 46)) (pos 15) (pos 19)
 
+-- the first with two months exchanged, whose exact sums are the same
 abbrev pub exchangedHead : Head
 exchangedHead = fourMonths (pos 72) (negℤ (pos 101)) (negℤ (pos 30)) (negℤ (pos 121))
 
@@ -54,6 +55,10 @@ threePeriods =
 abbrev pub unlikeHeads : History
 unlikeHeads = joins (opened exampleHead (exampleOf 2 ∷ [])) (opened firstHead (exampleOf 4 ∷ []))
 
+-- more than 5,000 records together
+abbrev pub tooMany : History
+tooMany = joins (opened exampleHead (many 3000)) (opened exampleHead (many 2001))
+
 -- the totals that the run of a history prints (fuel × 5 + quantity), and the reference's count and kilometres
 pub record HistoryGives (h : History) (printed : List ℕ) (count : ℕ) (km : List ℕ) : Type 0 where
   pub totals : tab (λ i. totalOf (historyRun h) (i / 5 + 1) (i % 5 + 1) .grams) 15 ≡ printed
@@ -61,15 +66,19 @@ pub record HistoryGives (h : History) (printed : List ℕ) (count : ℕ) (km : L
   pub distance : tab (historyReference h .km) 3 ≡ km
 
 pub record WorkedJoinsClaim : Type 0 where
-  -- the heads go together, and opening takes them all
   pub alike : headsDiffer firstHead secondHead ≡ false
-  pub exchanged-alike : headsDiffer firstHead exchangedHead ≡ false
+  -- each of these is a history that the claim is about, those with a refused join too
   pub taken : HeadsTaken twoHeadsLater
   pub periods-taken : HeadsTaken threePeriods
+  pub unlike-taken : HeadsTaken unlikeHeads
+  pub many-taken : HeadsTaken tooMany
   -- LPG NOX of two records, each by its own head: neither what both are by the first nor what both are by the second
   pub each-by-its-own : historyReference twoHeads .exact 2 1 ≡ over 82740319753430400000000000000 12000000000000000000000
   pub both-by-the-first : historyReference (opened firstHead (exampleOf 4 ∷ exampleOf 4 ∷ [])) .exact 2 1 ≡ over 82740319773484800000000000000 12000000000000000000000
   pub both-by-the-second : historyReference (opened secondHead (exampleOf 4 ∷ exampleOf 4 ∷ [])) .exact 2 1 ≡ over 82740319733376000000000000000 12000000000000000000000
+  -- months exchanged do not show it
+  pub exchanged-months : historyReference (joins (opened firstHead (exampleOf 4 ∷ [])) (opened exchangedHead (exampleOf 4 ∷ []))) .exact 2 1
+      ≡ over 82740319773484800000000000000 12000000000000000000000
   pub two-records : HistoryGives twoHeads
       (0 ∷ 0 ∷ 0 ∷ 0 ∷ 0 ∷ 0 ∷ 0 ∷ 0 ∷ 0 ∷ 0 ∷ 56693006 ∷ 6895026 ∷ 6015562 ∷ 0 ∷ 1118523384 ∷ []) 2 (0 ∷ 0 ∷ 20000000 ∷ [])
   -- further adds by the second head; by the first it would be 124,110,479,640,172,800,000,000,000,000
