@@ -33,7 +33,7 @@ use Rattle.accuracy.proofs.Whole.{after, every-list}
 use Rattle.worked.specs.Worked.{many, WorkedClaim}
 use Rattle.worked.proofs.Closed.{exactIn, reference-count, reference-km, reference-exact, total-closed}
 
-pub many-length : (n : ℕ) → length (many n) ≡ n
+many-length : (n : ℕ) → length (many n) ≡ n
 many-length zero = refl
 many-length (suc n) = rw (many-length n)
 
@@ -42,7 +42,7 @@ unfolding sumOf
 many-sum g zero = omega arith
 many-sum g (suc n) = omega (arith, many-sum g n)
 
-pub many-accepted : (n k : ℕ) → k + n ≤ 5000 → acceptedFrom k (many n) ≡ many n
+many-accepted : (n k : ℕ) → k + n ≤ 5000 → acceptedFrom k (many n) ≡ many n
 unfolding acceptedFrom accepts hasRoom acceptable firstFit recordGrounds outside vehicleKm sharesWrong speedsWrong
 many-accepted zero k h = refl
 many-accepted (suc n) k h = rw (lt-ltb k 5000 (omega arith), many-accepted n (k + 1) (omega arith))
@@ -51,10 +51,12 @@ pub taken : openNumber exampleHead ≡ 0
 unfolding tab allBelow outside firstFit temperatureOk periodGrounds temperaturesWrong headGrounds openNumber
 taken = refl
 
-count-many : (n : ℕ) → n ≤ 5000 → runAfter (openRun exampleHead) (many n) .count ≡ n
+pub reference-many : (n : ℕ) → n ≤ 5000 → referenceOf exampleHead (many n) .count ≡ n
 unfolding accepted
-count-many n h =
-    every-list exampleHead taken .list (many n) .count ∙ reference-count exampleHead (many n) ∙ ap length (many-accepted n 0 (omega arith)) ∙ many-length n
+reference-many n h = reference-count exampleHead (many n) ∙ ap length (many-accepted n 0 (omega arith)) ∙ many-length n
+
+count-many : (n : ℕ) → n ≤ 5000 → runAfter (openRun exampleHead) (many n) .count ≡ n
+count-many n h = every-list exampleHead taken .list (many n) .count ∙ reference-many n h
 
 -- the number of the add that follows
 next-number : (n : ℕ) → n ≤ 5000 → addNumber (runAfter (openRun exampleHead) (many n)) (exampleOf 2) ≡ cond (leb 5000 n) 9 0

@@ -1,10 +1,8 @@
 -- Worked histories, by computation. Assumes nothing.
-use mathlib.Core.Path.{_≡_, refl, ap, _∙_}
+use mathlib.Core.Path.{_≡_, refl, _∙_}
 use mathlib.Core.Bool.{false, cond}
 use Prim.Native.Nat.{ℕ, _+_, _≤_}
-use native.Mathlib.Omega.{arith}
 use lib.Dec.{ltb, lit≤}
-use lib.ListN.{length}
 use Rattle.units.specs.Lists.{tab, allBelow, sumTo}
 use Rattle.units.specs.Grounds.{outside, firstFit}
 use Rattle.units.specs.Rounding.{halfUp}
@@ -22,21 +20,16 @@ use Rattle.inventory.specs.Opening.{emptyRun, freshRun, openNumber, openRun}
 use Rattle.inventory.specs.Printed.{exactTotal, printedTotal, totalGrounds, answered, totalOf}
 use Rattle.joins.specs.Joining.{joinGrounds, joinNumber, slotJoined, kmJoined, joined, joinRun}
 use Rattle.accuracy.specs.Conditions.{someXDiffers, headsDiffer, fullTogether, joiningNumber}
-use Rattle.accuracy.specs.Reference.{acceptable, hasRoom, accepts, exactHot, exactCold, exactOf, empty, withRecord, fed, referenceFrom, referenceOf, accepted}
+use Rattle.accuracy.specs.Reference.{acceptable, hasRoom, accepts, exactHot, exactCold, exactOf, empty, withRecord, fed, referenceFrom, referenceOf}
 use Rattle.accuracy.specs.Claim.{runAfter}
 use Rattle.accuracy.specs.History.{opened, headOf, HeadsTaken, historyRun, together, joinedReference, historyReference}
 use Rattle.accuracy.specs.Numbers.{exampleHead}
 use Rattle.accuracy.proofs.Whole.{history}
 use Rattle.worked.specs.Worked.{many}
-use Rattle.worked.proofs.Closed.{reference-count}
-use Rattle.worked.proofs.Worked.{many-length, many-accepted, taken}
+use Rattle.worked.proofs.Worked.{reference-many, taken}
 use Rattle.worked_joins.specs.Worked.{tooMany, WorkedJoinsClaim}
 
 -- ---- full runs, joined
-
-count-many : (n : ℕ) → n ≤ 5000 → referenceOf exampleHead (many n) .count ≡ n
-unfolding accepted
-count-many n h = reference-count exampleHead (many n) ∙ ap length (many-accepted n 0 (omega arith)) ∙ many-length n
 
 same-head : headsDiffer exampleHead exampleHead ≡ false
 unfolding tab sumTo halfUp hasOwnX betaReduction coldShare slopes coldRatio coldExcess monthProduct coldSum xFrom coldX someXDiffers headsDiffer
@@ -46,7 +39,7 @@ join-many : (m n : ℕ) → m ≤ 5000 → n ≤ 5000
     → joinNumber (historyRun (opened exampleHead (many m))) (historyRun (opened exampleHead (many n))) ≡ cond (ltb 5000 (m + n)) 22 0
 unfolding headOf historyReference joiningNumber fullTogether
 join-many m n h k =
-    history .number (opened exampleHead (many m)) (opened exampleHead (many n)) taken taken ∙ rw (same-head, count-many m h, count-many n k)
+    history .number (opened exampleHead (many m)) (opened exampleHead (many n)) taken taken ∙ rw (same-head, reference-many m h, reference-many n k)
 
 many-taken : HeadsTaken tooMany
 many-taken = (taken, taken)
