@@ -19,12 +19,13 @@ logs=target/tests
 mkdir -p "$logs"
 
 # The parts, the longest first; what each runs.
-parts="report differential wrong_programs vectors area_vectors join_vectors sheets questions timing tight_list layout examples header python readme book papers promises gate"
+parts="report differential wrong_programs answers vectors area_vectors join_vectors sheets questions timing tight_list layout examples header python readme book papers promises gate"
 run_part() {
     case $1 in
     report) python3 tests/report.py target/bin/report ;;
     differential) tests/differential/run.sh ;;
     wrong_programs) python3 tests/wrong_programs.py ;;
+    answers) tests/answers/run.sh ;;
     vectors | area_vectors | join_vectors | sheets | questions | timing) python3 "tools/$1.py" --check ;;
     tight_list) python3 tools/tight_list.py ;;
     layout) tests/layout/run.sh ;;
