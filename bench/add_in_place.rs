@@ -20,7 +20,7 @@ const SLOPES: [[i64; 2]; 15] = [
 const BILLION: u64 = 1_000_000_000;
 
 #[derive(Clone)]
-struct Run { trip: u64, x: [u64; 16], count: u64, km: [u64; 3], grams: [u64; 60], rests: [u64; 60] }
+struct Run { trip: u64, x: [u64; 16], count: u64, km: [u64; 3], grams: [u64; 60], rests: [u64; 60], total_grams: [u64; 15], total_rests: [u64; 15] }
 struct Record { class: u64, vehicles: u64, km: u64, shares: [u64; 3], speeds: [u64; 3] }
 
 fn open(trip: u64, temps: &[i64; 12]) -> Run {
@@ -36,7 +36,7 @@ fn open(trip: u64, temps: &[i64; 12]) -> Run {
         // CO of class 3
         if i == 0 { x[15] = (sum as u64 * 72 + 600_000) / 1_200_000; }
     }
-    Run { trip, x, count: 0, km: [0; 3], grams: [0; 60], rests: [0; 60] }
+    Run { trip, x, count: 0, km: [0; 3], grams: [0; 60], rests: [0; 60], total_grams: [0; 15], total_rests: [0; 15] }
 }
 
 fn in_order(r: &Run) -> bool {
@@ -45,9 +45,17 @@ fn in_order(r: &Run) -> bool {
     let km = BILLION * r.count;
     if r.km.iter().any(|&k| km < k) { return false; }
     let limit = 1_000_000_000_000 * r.count;
-    for j in 0..60 {
-        let (g, s) = (r.grams[j], r.rests[j]);
-        if s >= BILLION || g > limit || (g == limit && s > 0) { return false; }
+    for t in 0..15 {
+        let (mut grams, mut rests) = (0, 0);
+        for j in t * 4..t * 4 + 4 {
+            let (g, s) = (r.grams[j], r.rests[j]);
+            if s >= BILLION || g > limit || (g == limit && s > 0) { return false; }
+            grams += g;
+            rests += s;
+        }
+        // what a total has more than the grams of its four is the carry of their rests
+        let (carry, rest) = (r.total_grams[t].wrapping_sub(grams), r.total_rests[t]);
+        if carry > 3 || rest >= BILLION || carry * BILLION + rest != rests { return false; }
     }
     true
 }
@@ -77,24 +85,27 @@ fn add(run: &mut Run, r: &Record) -> u64 {
             let v = r.speeds[road] as i64;
             ((c[0] * v + c[1]) * v + c[2]) as u64
         };
-        let j = fuel * 20 + q * 4;
+        let (j, t) = (fuel * 20 + q * 4, fuel * 5 + q);
+        let x = run.x[if r.class == 3 && q == 0 { 15 } else { t }];
+        let (mut grams, mut rests) = (0, run.total_rests[t]);
+        let mut put = |j: usize, more: u64, rest: u64| {
+            let mut s = run.rests[j] + rest;
+            let mut g = run.grams[j] + more;
+            if s >= BILLION { s -= BILLION; g += 1; }
+            run.grams[j] = g;
+            run.rests[j] = s;
+            grams += more;
+            rests += rest;
+        };
         for road in 0..3 {
             let a = k * r.shares[road];
             let low = a % BILLION * e(road);
-            let mut s = run.rests[j + road] + low % BILLION;
-            let mut g = run.grams[j + road] + a / BILLION * e(road) + low / BILLION;
-            if s >= BILLION { s -= BILLION; g += 1; }
-            run.grams[j + road] = g;
-            run.rests[j + road] = s;
+            put(j + road, a / BILLION * e(road) + low / BILLION, low % BILLION);
         }
-        let x = run.x[if r.class == 3 && q == 0 { 15 } else { fuel * 5 + q }];
         let f = if r.class == 5 { 0 } else { (e(0) * x + 500_000_000) / BILLION };
-        let a = k * f;
-        let mut s = run.rests[j + 3] + a % 10_000_000 * 100;
-        let mut g = run.grams[j + 3] + a / 10_000_000;
-        if s >= BILLION { s -= BILLION; g += 1; }
-        run.grams[j + 3] = g;
-        run.rests[j + 3] = s;
+        put(j + 3, k * f / 10_000_000, k * f % 10_000_000 * 100);
+        run.total_grams[t] += grams + rests / BILLION;
+        run.total_rests[t] = rests % BILLION;
     }
     run.km[fuel] += k;
     run.count += 1;
@@ -113,4 +124,5 @@ fn main() {
         for i in 0..5000 { add(&mut run, &record_at(i)); }
     }
     for j in 0..60 { println!("{} {}", run.grams[j], run.rests[j]); }
+    for t in 0..15 { println!("{} {}", run.total_grams[t], run.total_rests[t]); }
 }

@@ -64,16 +64,29 @@ impl Pairs {
             assert_eq!([ours.number, b.number, tuned_join_into(&self.b[i][0], &self.b[i][1], &mut run)], [0; 3]);
             assert!(same_runs(&ours.run, &a, &b.run) && run == b.run && run.count == (one + other) as u64, "the joins differ");
         }
-        // refused joins, which are not timed: an X and L apart, more than 5,000 records, a rest and an X out of order
+        // refused joins, which are not timed: an X and L apart, more than 5,000 records, a rest and an X out of order, a total broken
+        // by a billionth and by a gram (an archive without totals does not see these)
         let [first, second] = &self.b[0];
-        let mut wrong: [tuned::Run; 5] = std::array::from_fn(|_| second.clone());
+        let mut wrong: [tuned::Run; 7] = std::array::from_fn(|_| second.clone());
         wrong[0].x[15] += 1;
         wrong[1].trip = if second.trip == 200 { 199 } else { second.trip + 1 };
         wrong[2].count = 2501;
         wrong[3].rests[59] = 1_000_000_000;
         wrong[4].x[7] = 4_900_000_001;
-        for (wrong, number) in wrong.into_iter().zip([21, 21, 22, 16, 16]) {
-            let other = c::Run { trip: wrong.trip, x: wrong.x, count: wrong.count, rests: wrong.rests, ..self.ours[0][1] };
+        wrong[5].total_rests[14] ^= 1;
+        wrong[6].total_grams[0] += 1;
+        for (wrong, number) in wrong.into_iter().zip([21, 21, 22, 16, 16, 16, 16]).take(if cfg!(no_totals) { 5 } else { 7 }) {
+            let other = c::Run {
+                trip: wrong.trip,
+                x: wrong.x,
+                count: wrong.count,
+                rests: wrong.rests,
+                #[cfg(not(no_totals))]
+                total_grams: wrong.total_grams,
+                #[cfg(not(no_totals))]
+                total_rests: wrong.total_rests,
+                ..self.ours[0][1]
+            };
             // as the second, and as the first
             let [good, bad] = [(self.ours[0][0], first), (other, &wrong)];
             for (one, two) in [(good, bad), (bad, good)] {

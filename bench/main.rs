@@ -5,19 +5,13 @@
 //!     bench [PASSES]
 //!     bench --rows     one pass, as lines `name, archive, (a), (b)` between tabs, for bench/against.py
 //!
-//! With `--cfg no_join` it is linked with an archive that has no haldurap_join: the rows of joins are left out. With `--cfg
-//! no_days` as well it is one up to layout 5, whose heads have no dates: the declarations are others (bench/run.sh makes them), and
-//! the row of dated heads is left out. With `--cfg no_digits` as well it is one up to layout 4, in whose balances the digits worked
-//! are not told: they are not compared. With `--cfg no_areas` as well it is one up to layout 3, which has no calls of areas: their
-//! rows are left out. With `--cfg layout_2` as well it is one of layout 2, in whose runs CO of class 3 has no X of its own: what
-//! goes by that X is not compared.
-#[cfg(not(no_areas))]
+//! With `--cfg no_totals` it is linked with an archive of layout 6, whose runs store no totals: the declarations are others
+//! (bench/run.sh makes them), and the stored totals of (a) and (b) are not compared with it.
 mod areas;
 mod balances;
-#[cfg_attr(not(no_days), path = "../include/haldurap.rs")]
-#[cfg_attr(no_days, path = "../target/haldurap_other.rs")]
+#[cfg_attr(not(no_totals), path = "../include/haldurap.rs")]
+#[cfg_attr(no_totals, path = "../target/haldurap_other.rs")]
 mod haldurap;
-#[cfg(not(no_join))]
 mod joins;
 #[path = "../tests/differential/random.rs"]
 mod random;
@@ -34,16 +28,8 @@ use std::time::Instant;
 // ---- The same inputs for all three
 
 fn c_head(h: &plain::Head) -> c::Head {
-    #[cfg(not(no_days))]
     let [first, last] = h.days.unwrap_or([0; 2]);
-    c::Head {
-        trip: h.trip,
-        temps: h.temps,
-        #[cfg(not(no_days))]
-        first,
-        #[cfg(not(no_days))]
-        last,
-    }
+    c::Head { trip: h.trip, temps: h.temps, first, last }
 }
 
 fn tuned_head(h: &plain::Head) -> tuned::Head {
@@ -325,14 +311,12 @@ fn opening(heads: &[plain::Head], repetitions: usize) -> [f64; 3] {
 }
 
 /// Dated heads: whole years, single days and what is between.
-#[cfg(not(no_days))]
 fn dated_heads() -> Vec<plain::Head> {
     let mut r = Random(366);
     (0..64).map(|_| random::dated_head(&mut r)).collect()
 }
 
 /// Sheets of dated heads, which are not timed: the same texts of all three.
-#[cfg(not(no_days))]
 fn compare_dated_sheets(inputs: &Inputs) {
     let [mut buffer, mut buffer_a, mut buffer_b] = [[0u8; c::REPORT_BYTES]; 3];
     for (head, record) in dated_heads().iter().zip(&inputs.records) {
@@ -342,17 +326,22 @@ fn compare_dated_sheets(inputs: &Inputs) {
     }
 }
 
-/// Whether three runs are the same; a run of layout 2 has no x[15], and another cold sum of gasoline CO (place 3).
+/// Whether three runs are the same.
 fn same_runs(ours: &c::Run, a: &plain::Run, b: &tuned::Run) -> bool {
-    let sums = a.sums.as_flattened().as_flattened();
-    let same_sum = |i: usize| (cfg!(layout_2) && i == 3) || (ours.grams[i], ours.rests[i]) == (b.grams[i], b.rests[i]);
-    (ours.trip, &ours.x[..], ours.count, ours.km) == (b.trip, &b.x[..ours.x.len()], b.count, b.km)
-        && (0..60).all(|i| same_sum(i) && sums[i] == plain::Sum { grams: b.grams[i], rest: b.rests[i] })
+    let (sums, totals) = (a.sums.as_flattened().as_flattened(), a.totals.as_flattened());
+    #[cfg(not(no_totals))]
+    let same_totals = (ours.total_grams, ours.total_rests) == (b.total_grams, b.total_rests);
+    #[cfg(no_totals)]
+    let same_totals = true;
+    (ours.trip, ours.x, ours.count, ours.km, ours.grams, ours.rests) == (b.trip, b.x, b.count, b.km, b.grams, b.rests)
+        && same_totals
+        && (0..60).all(|i| sums[i] == plain::Sum { grams: b.grams[i], rest: b.rests[i] })
+        && (0..15).all(|i| totals[i] == plain::Sum { grams: b.total_grams[i], rest: b.total_rests[i] })
 }
 
-/// Whether three texts are the same; of an archive of layout 2 only the length.
+/// Whether three texts are the same.
 fn same_texts(lengths: [usize; 3], ours: &[u8], a: &[u8], b: &[u8]) -> bool {
-    lengths == [lengths[0]; 3] && a == b && (cfg!(layout_2) || ours == a)
+    lengths == [lengths[0]; 3] && a == b && ours == a
 }
 
 /// Full runs of all three, which must be the same run.
@@ -386,14 +375,11 @@ struct Best {
     total: [f64; 3],
     report: [f64; 3],
     open: [f64; 3],
-    #[cfg(not(no_days))]
     dated: [f64; 3],
     order: [f64; 3],
     list: [f64; 3],
     balances: balances::Best,
-    #[cfg(not(no_join))]
     joins: joins::Best,
-    #[cfg(not(no_areas))]
     areas: areas::Best,
 }
 
@@ -410,15 +396,12 @@ impl Best {
             row("total of a full run", self.total),
             row("report of a full run", self.report),
             row("opening", self.open),
+            row("opening, dated", self.dated),
             row("order of a full run", self.order),
             row("list of 5,000, each record", self.list),
         ];
-        #[cfg(not(no_days))]
-        rows.insert(8, row("opening, dated", self.dated));
         rows.extend(self.balances.rows());
-        #[cfg(not(no_join))]
         rows.extend(self.joins.rows());
-        #[cfg(not(no_areas))]
         rows.extend(self.areas.rows());
         rows
     }
@@ -467,7 +450,6 @@ fn pass(best_of: &mut Best, inputs: &Inputs, runs: &(c::Run, plain::Run, tuned::
     keep(&mut best_of.report, times);
 
     keep(&mut best_of.open, opening(&inputs.heads, repetitions));
-    #[cfg(not(no_days))]
     keep(&mut best_of.dated, opening(&dated_heads(), repetitions));
 
     let times = best(repetitions, [
@@ -492,9 +474,7 @@ fn pass(best_of: &mut Best, inputs: &Inputs, runs: &(c::Run, plain::Run, tuned::
     keep(&mut best_of.list, times.map(|t| t / 5000.0));
 
     best_of.balances.pass(runs, repetitions);
-    #[cfg(not(no_join))]
     best_of.joins.pass(inputs, repetitions);
-    #[cfg(not(no_areas))]
     best_of.areas.pass(inputs, repetitions);
 }
 
@@ -508,7 +488,6 @@ fn main() {
     let passes: usize = if rows_alone { 1 } else { argument.map_or(6, |n| n.parse().expect("PASSES")) };
     let inputs = inputs();
     let runs = full_runs(&inputs);
-    #[cfg(not(no_days))]
     compare_dated_sheets(&inputs);
     let before = load();
     let mut b = Best {
@@ -518,14 +497,11 @@ fn main() {
         total: [f64::MAX; 3],
         report: [f64::MAX; 3],
         open: [f64::MAX; 3],
-        #[cfg(not(no_days))]
         dated: [f64::MAX; 3],
         order: [f64::MAX; 3],
         list: [f64::MAX; 3],
         balances: balances::Best::new(),
-        #[cfg(not(no_join))]
         joins: joins::Best::new(),
-        #[cfg(not(no_areas))]
         areas: areas::Best::new(),
     };
     for _ in 0..passes {

@@ -10,6 +10,8 @@ pub struct Run {
     pub km: [u64; 3],
     pub grams: [u64; 60],
     pub rests: [u64; 60],
+    pub total_grams: [u64; 15],
+    pub total_rests: [u64; 15],
 }
 
 /// Areas 0 to 15, and how many of the common records are used.
@@ -19,7 +21,8 @@ pub struct Areas {
     pub common: u64,
 }
 
-pub const ZERO: Run = Run { trip: 0, x: [0; 16], count: 0, km: [0; 3], grams: [0; 60], rests: [0; 60] };
+pub const ZERO: Run =
+    Run { trip: 0, x: [0; 16], count: 0, km: [0; 3], grams: [0; 60], rests: [0; 60], total_grams: [0; 15], total_rests: [0; 15] };
 
 pub struct Head {
     pub trip: u64,
@@ -178,27 +181,55 @@ pub fn in_order(run: &Run) -> bool {
     sums_in_order(run)
 }
 
-/// The grams and rests by `or`.
+/// The grams and rests by `or`, those of the totals too.
 #[inline]
 fn any_of(run: &Run) -> u64 {
     let mut any = 0;
     for j in 0..60 {
         any |= run.grams[j] | run.rests[j];
     }
+    for t in 0..15 {
+        any |= run.total_grams[t] | run.total_rests[t];
+    }
     any
 }
 
-/// Each sum of a run with its rest within the run's limit.
+/// Each sum of a run with its rest within the run's limit, and each total that of its four. Four rests are below 4 × 10^9, so a
+/// total has at most 3 g more than the grams of its four, and what it has more is their carry.
 #[inline]
 fn sums_in_order(run: &Run) -> bool {
     let limit = TRILLION * run.count;
-    for j in 0..60 {
-        let (g, s) = (run.grams[j], run.rests[j]);
-        if s >= BILLION || g > limit || (g == limit && s > 0) {
+    for t in 0..15 {
+        let (mut grams, mut rests) = (0, 0);
+        for j in t * 4..t * 4 + 4 {
+            let (g, s) = (run.grams[j], run.rests[j]);
+            if s >= BILLION || g > limit || (g == limit && s > 0) {
+                return false;
+            }
+            grams += g;
+            rests += s;
+        }
+        let (carry, rest) = (run.total_grams[t].wrapping_sub(grams), run.total_rests[t]);
+        if carry > 3 || rest >= BILLION || carry * BILLION + rest != rests {
             return false;
         }
     }
     true
+}
+
+/// Each total that of its four, of sums that are in order, without a branch for each.
+#[inline]
+fn totals_in_order(run: &Run) -> bool {
+    let (mut wide, mut over, mut differ) = (0, 0, 0);
+    for t in 0..15 {
+        let (g, s) = (&run.grams[t * 4..t * 4 + 4], &run.rests[t * 4..t * 4 + 4]);
+        let (carry, rest) = (run.total_grams[t].wrapping_sub(g[0] + g[1] + g[2] + g[3]), run.total_rests[t]);
+        wide |= carry;
+        // half a rest, moved so that 10^9 comes to 2^29; `or` keeps any bit from there on
+        over |= rest / 2 + ((1 << 29) - BILLION / 2);
+        differ |= (s[0] + s[1] + s[2] + s[3]) ^ carry.wrapping_mul(BILLION).wrapping_add(rest);
+    }
+    (wide < 4) & (over < 1 << 29) & (differ == 0)
 }
 
 fn record_fault(r: &Record) -> u64 {
@@ -284,6 +315,13 @@ fn take(run: &mut Run, r: &Record) {
             put(q * 4 + 3, cold / 10_000_000, cold % 10_000_000 * 100);
         }
     }
+    // the five totals of this fuel, from what their kinds are now
+    for q in 0..5 {
+        let (g, s) = (&grams[q * 4..q * 4 + 4], &rests[q * 4..q * 4 + 4]);
+        let rest = s[0] + s[1] + s[2] + s[3];
+        run.total_grams[fuel * 5 + q] = g[0] + g[1] + g[2] + g[3] + rest / BILLION;
+        run.total_rests[fuel * 5 + q] = rest % BILLION;
+    }
     run.km[fuel] += k;
     run.count += 1;
 }
@@ -312,7 +350,7 @@ pub fn add_list(head: &Head, numbers: &[u64], run: &mut Run) -> (u64, u64, usize
     (0, taken, place, refused)
 }
 
-/// The order of a run to be joined: X and sums in one pass each by `or`, one by one only where that does not decide.
+/// The order of a run to be joined: X, sums and totals in one pass each by `or`, one by one only where that does not decide.
 #[inline]
 fn joinable(run: &Run) -> bool {
     // an X moved so that 4,900,000,001 comes to 2^33; `or` keeps any bit from there on, and those of an X that wraps
@@ -354,14 +392,21 @@ pub fn join(first: &Run, second: &Run, to: &mut Run) -> u64 {
     for f in 0..3 {
         to.km[f] = first.km[f] + second.km[f];
     }
-    for j in 0..60 {
-        // two rests are below 2^31: moved so that 10^9 comes to 2^30, the next bit is the carry
-        let s = first.rests[j] + second.rests[j];
-        let carry = (s + ((1 << 30) - BILLION)) >> 30;
-        to.grams[j] = first.grams[j] + second.grams[j] + carry;
-        to.rests[j] = s - carry * BILLION;
-    }
+    put_together(&first.grams, &first.rests, &second.grams, &second.rests, &mut to.grams, &mut to.rests);
+    put_together(&first.total_grams, &first.total_rests, &second.total_grams, &second.total_rests, &mut to.total_grams, &mut to.total_rests);
     0
+}
+
+/// Grams and rests of two added up.
+#[inline]
+fn put_together<const N: usize>(g: &[u64; N], s: &[u64; N], h: &[u64; N], t: &[u64; N], grams: &mut [u64; N], rests: &mut [u64; N]) {
+    for j in 0..N {
+        // two rests are below 2^31: moved so that 10^9 comes to 2^30, the next bit is the carry
+        let rest = s[j] + t[j];
+        let carry = (rest + ((1 << 30) - BILLION)) >> 30;
+        grams[j] = g[j] + h[j] + carry;
+        rests[j] = rest - carry * BILLION;
+    }
 }
 
 /// Opens all areas in place; a refused head leaves zeros.
@@ -406,7 +451,7 @@ fn areas_in_order(areas: &Areas) -> bool {
     differ == 0 && beyond == areas.common && beyond <= 200
 }
 
-/// The sums of an area: in one pass by `or`, which no number is above; one by one only where that does not decide.
+/// The sums and totals of an area: in one pass each by `or`, which no number is above; one by one only where that does not decide.
 #[inline]
 fn area_sums_in_order(run: &Run) -> bool {
     if run.count == 0 {
@@ -419,7 +464,7 @@ fn area_sums_in_order(run: &Run) -> bool {
         over |= run.rests[j] / 2 + ((1 << 29) - BILLION / 2);
     }
     // `&`: both are known before the only branch
-    (any < TRILLION * run.count) & (over < 1 << 29) || sums_in_order(run)
+    if (any < TRILLION * run.count) & (over < 1 << 29) { totals_in_order(run) } else { sums_in_order(run) }
 }
 
 /// Adds a record to an area in place.
@@ -457,9 +502,9 @@ pub fn area_run(areas: &Areas, area: u64, run: &mut Run) -> u64 {
 }
 
 /// The printed total of a place in order.
+#[inline]
 fn total_at(run: &Run, place: usize) -> u64 {
-    let (g, s) = (&run.grams[place * 4..place * 4 + 4], &run.rests[place * 4..place * 4 + 4]);
-    g[0] + g[1] + g[2] + g[3] + (s[0] + s[1] + s[2] + s[3] + BILLION / 2) / BILLION
+    run.total_grams[place] + (run.total_rests[place] >= BILLION / 2) as u64
 }
 
 /// The number and the printed total.

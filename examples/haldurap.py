@@ -15,7 +15,7 @@ import os
 from collections import namedtuple
 from ctypes import POINTER, Structure, c_double, c_int64, c_size_t, c_uint8, c_uint64
 
-LAYOUT = 6
+LAYOUT = 7
 MOST_RECORDS = 5000
 MOST_TEXT = 65536
 LINE_BYTES = 97
@@ -28,7 +28,7 @@ RECORD_NUMBERS = 9
 AREAS = 16
 AREA_RECORDS = 300
 COMMON_RECORDS = 200
-AREAS_NUMBERS = 2257
+AREAS_NUMBERS = 2737
 GASOLINE, DIESEL, LPG = FUELS = (1, 2, 3)
 CO, NOX, VOC, PM, FC = QUANTITIES = (1, 2, 3, 4, 5)
 KINDS = ("urban", "rural", "highway", "cold")
@@ -218,9 +218,11 @@ class Record(_Numbers):
 
 
 class Run(_Numbers):
-    # the last of x is that of CO of class 3
+    # The last of x is that of CO of class 3. The totals are by fuel and quantity; each must be the sum of its four kinds, exactly, else
+    # the run is refused with 16: whoever writes grams or rests by hand writes their total too.
     _fields_ = [("trip", c_uint64), ("x", _array(c_uint64, 16, "x")), ("count", c_uint64), ("km", _array(c_uint64, 3, "km")),
-                ("grams", _array(c_uint64, 60, "grams")), ("rests", _array(c_uint64, 60, "rests"))]
+                ("grams", _array(c_uint64, 60, "grams")), ("rests", _array(c_uint64, 60, "rests")),
+                ("total_grams", _array(c_uint64, 15, "total_grams")), ("total_rests", _array(c_uint64, 15, "total_rests"))]
 
 
 class Areas(_Numbers):
@@ -358,9 +360,9 @@ def add(run, a_record):
 
 
 def join(first, second):
-    """One run of both: count, kilometres and sums added up; the runs handed in stay as they are. L and all X must agree, as of runs
-    under one head. The runs of areas may be joined too. Neither order nor grouping matters, and a fresh run of the same head changes
-    nothing; a run that is joined with itself has its records twice. Refuses 16, 21, 22."""
+    """One run of both: count, kilometres, sums and totals added up; the runs handed in stay as they are. L and all X must agree, as of
+    runs under one head. The runs of areas may be joined too. Neither order nor grouping matters, and a fresh run of the same head
+    changes nothing; a run that is joined with itself has its records twice. Refuses 16, 21, 22."""
     return _taken(_call("join")(_of("first", first, Run), _of("second", second, Run))).run
 
 
@@ -381,7 +383,8 @@ def add_list(a_head, records):
 
 
 def in_order(run):
-    """Whether the run is in order: each value in its range. A value that is wrong inside its range is not seen."""
+    """Whether the run is in order: each value in its range, each total the sum of its four kinds. A value that is wrong and keeps
+    this is not seen."""
     return _call("in_order")(_of("run", run, Run)) == 1
 
 

@@ -44,8 +44,7 @@
      cannot see.
    - Later versions move the layout of a run, and of areas with it. Compare haldurap_layout() with
      HALDURAP_LAYOUT and sizeof(haldurap_run) before runs or areas are kept in files, or a header
-     and an archive are mixed. haldurap_join came without another layout: the linker misses it in an
-     archive that is older, and runs that were kept may be joined.
+     and an archive are mixed. Runs kept by layouts before 7 have no totals: read their sheets or lists again.
 
    Units: grams, vehicle kilometres and km/h are whole numbers; trip lengths are tenths of km,
    temperatures tenths of a degree Celsius, shares percent. A day is written year x 10,000 +
@@ -73,7 +72,7 @@ extern "C" {
 #endif
 
 /* The layout that this header describes; haldurap_layout() tells that of the archive. */
-#define HALDURAP_LAYOUT 6   /* first and last joined haldurap_head; the run's own layout is that of 3 */
+#define HALDURAP_LAYOUT 7   /* total_grams and total_rests came to haldurap_run */
 
 /* Limits. */
 #define HALDURAP_MOST_RECORDS 5000      /* records in a run, a joined one too */
@@ -88,7 +87,7 @@ extern "C" {
 #define HALDURAP_AREAS 16               /* areas under one head */
 #define HALDURAP_AREA_RECORDS 300       /* records that each area has for itself */
 #define HALDURAP_COMMON_RECORDS 200     /* records more, for whichever areas come first */
-#define HALDURAP_AREAS_NUMBERS 2257     /* 64-bit numbers of a haldurap_areas: its length in the calls */
+#define HALDURAP_AREAS_NUMBERS 2737     /* 64-bit numbers of a haldurap_areas: its length in the calls */
 
 /* The numbers of refusals. */
 enum haldurap_number {
@@ -159,35 +158,42 @@ typedef struct haldurap_record {
     haldurap_speeds speeds;     /*  48 */
 } haldurap_record;
 
-/* A run: what has been added up under one head, or under heads that come to the same (haldurap_join). 1,128 bytes.
+/* A run: what has been added up under one head, or under heads that come to the same (haldurap_join). 1,368 bytes.
    Take it from haldurap_open, haldurap_add, haldurap_join, haldurap_add_list, haldurap_sheet and haldurap_area_run,
    and ask by the calls below.
 
    A run that is not in order gives 16 from every call that takes it, but for haldurap_in_order, which gives 0.
-   It is in order if every value is in its range:
+   It is in order if every value is in its range, and every total is that of its four kinds:
        trip        10 to 200
        x           each 0 to 4,900,000,000
        count       0 to 5,000
        km          each 0 to 10^9 x count
        grams       each sum, whole grams and rest together, 0 to 10^12 g x count
        rests       each 0 to 999,999,999
-   That is all that 16 sees. It cannot see a value that is wrong inside these ranges: a flipped bit, two
-   exchanged sums, an x of another head, a record counted twice. Such a run is taken, and the figures
-   are those of the wrong values. haldurap_join compares the trip and x of its two runs (21), the calls that read
-   areas those of all sixteen (16); nothing else is compared.
+       total_grams each total, whole grams and rest together, exactly the sum of its four kinds with their rests
+       total_rests each 0 to 999,999,999
+   That is all that 16 sees. It cannot see a value that is wrong and keeps all this: a flipped bit of trip, x, count
+   or km, a sum changed together with its total, two exchanged kinds of one fuel and quantity, an x of another head, a record counted twice. Such a run is
+   taken, and the figures are those of the wrong values. haldurap_join compares the trip and x of its two runs (21),
+   the calls that read areas those of all sixteen (16); nothing else is compared.
+   A program that writes grams or rests by hand writes their total as well, else the run is refused with 16: the four
+   grams, and one more for each 10^9 that the four rests reach together; the rest is what remains.
    A program that keeps runs in files adds a checksum of its own. */
 typedef struct haldurap_run {
-    uint64_t trip;              /*   0  L of the head */
-    uint64_t x[16];             /*   8  cold-start values X, at (fuel - 1) x 5 + quantity - 1; the last, x[15], is
-                                        that of CO of class 3 */
-    uint64_t count;             /* 136  records added */
-    uint64_t km[3];             /* 144  vehicle kilometres of each fuel, at fuel - 1 */
-    uint64_t grams[60];         /* 168  whole grams, at (fuel - 1) x 20 + (quantity - 1) x 4 + kind;
-                                        kind is 0 urban, 1 rural, 2 highway, 3 cold */
-    uint64_t rests[60];         /* 648  the rest of each sum, billionths of a gram, at the same place */
+    uint64_t trip;              /*    0  L of the head */
+    uint64_t x[16];             /*    8  cold-start values X, at (fuel - 1) x 5 + quantity - 1; the last, x[15], is
+                                         that of CO of class 3 */
+    uint64_t count;             /*  136  records added */
+    uint64_t km[3];             /*  144  vehicle kilometres of each fuel, at fuel - 1 */
+    uint64_t grams[60];         /*  168  whole grams, at (fuel - 1) x 20 + (quantity - 1) x 4 + kind;
+                                         kind is 0 urban, 1 rural, 2 highway, 3 cold */
+    uint64_t rests[60];         /*  648  the rest of each sum, billionths of a gram, at the same place */
+    uint64_t total_grams[15];   /* 1128  whole grams of the exact total, what the four rests carry (0 to 3 g) included, at
+                                         (fuel - 1) x 5 + quantity - 1 */
+    uint64_t total_rests[15];   /* 1248  the rest of each total, billionths of a gram, at the same place */
 } haldurap_run;
 
-/* Sixteen areas under one head: the run of each, and how much of the common records they use. 18,056 bytes.
+/* Sixteen areas under one head: the run of each, and how much of the common records they use. 21,896 bytes.
    They share 5,000 records: each area has 300 for itself, and 200 more are for whichever areas come first. An
    area below 300 can always add an acceptable record, whatever the others have used.
    Open them by haldurap_open_areas (any memory of this size will do, whatever is in it), add by haldurap_add_area,
@@ -200,10 +206,10 @@ typedef struct haldurap_run {
    What 16 cannot see in a run it cannot see here, nor that two areas' runs were exchanged. */
 typedef struct haldurap_areas {
     haldurap_run runs[16];      /*     0  the run of each area, from area 0 */
-    uint64_t common;            /* 18048  records beyond 300, summed over the areas */
+    uint64_t common;            /* 21888  records beyond 300, summed over the areas */
 } haldurap_areas;
 
-/* A number and a run. 1,136 bytes. */
+/* A number and a run. 1,376 bytes. */
 typedef struct haldurap_run_answer {
     uint64_t number;            /*   0 */
     haldurap_run run;           /*   8 */
@@ -239,7 +245,7 @@ typedef struct haldurap_text_answer {
     size_t sheet_line;          /*  24  the line that decided, from 1, also with 14; 0 for a taken sheet */
 } haldurap_text_answer;
 
-/* What became of a list of records, and the run. 1,160 bytes.
+/* What became of a list of records, and the run. 1,400 bytes.
    number is 0 also where records were refused: refused tells whether one was, taken how many were taken. */
 typedef struct haldurap_list_answer {
     uint64_t number;            /*   0  0, or 10, 1, 2, 19, 20: the list or its head is refused */
@@ -265,7 +271,7 @@ typedef struct haldurap_figure_answer {
     double grams;               /*  16  0.0 where given is 0 */
 } haldurap_figure_answer;
 
-/* A number, its line and the run of a sheet. 1,144 bytes. */
+/* A number, its line and the run of a sheet. 1,384 bytes. */
 typedef struct haldurap_sheet_answer {
     uint64_t number;            /*   0 */
     size_t line;                /*   8  the line that decided, from 1; 0 for a taken sheet */
@@ -282,19 +288,19 @@ typedef struct haldurap_layout_answer {
 /* The layout that the archive was built with. Never refuses. */
 HALDURAP_ANSWER haldurap_layout_answer haldurap_layout(void);
 
-/* Opens a run: trip and the X of the head, no records, all sums 0.
+/* Opens a run: trip and the X of the head, no records, all sums and totals 0.
    Refuses 1, 2, 19, 20, and gives the run of zeros then (which is not in order). */
 HALDURAP_ANSWER haldurap_run_answer haldurap_open(haldurap_head head);
 
 /* Adds a record. The answer's run has one record more, its kilometres, and its grams in the twenty
-   sums of its fuel, exact to the billionth of a gram.
+   sums and the five totals of its fuel, exact to the billionth of a gram.
    Refuses 16, then 3 to 9, and gives back the run as it came, byte for byte. So
        a = haldurap_add(run, record); run = a.run;
    is right whether the record was taken or not. */
 HALDURAP_ANSWER haldurap_run_answer haldurap_add(haldurap_run run, haldurap_record record);
 
-/* Joins two runs into one, as where two crews key in halves of one town: count, kilometres and the 60 sums of the
-   answer's run are theirs added up, exact to the billionth of a gram; trip and x are those of both.
+/* Joins two runs into one, as where two crews key in halves of one town: count, kilometres, the 60 sums and the 15
+   totals of the answer's run are theirs added up, exact to the billionth of a gram; trip and x are those of both.
    Runs may be joined if L and all 16 X agree, as they do where both were opened with the same head, and if they
    have at most 5,000 records together. Nothing else of a head is compared: other heads may come to the same L and
    X, as where months of equal weight are exchanged. The distance of a printed total from the exact sum holds over

@@ -7,7 +7,7 @@
 compile_error!("haldurap.rs: the archive is for x86-64 Linux with 64-bit pointers");
 
 /// The layout that this file describes; `haldurap_layout` tells that of the archive.
-pub const LAYOUT: u64 = 6;
+pub const LAYOUT: u64 = 7;
 
 /// Records in a run, a joined one too.
 pub const MOST_RECORDS: u64 = 5000;
@@ -34,7 +34,7 @@ pub const AREA_RECORDS: u64 = 300;
 /// Records more, for whichever areas come first.
 pub const COMMON_RECORDS: u64 = 200;
 /// 64-bit numbers of an `Areas`.
-pub const AREAS_NUMBERS: usize = 2257;
+pub const AREAS_NUMBERS: usize = 2737;
 
 // The numbers of refusals.
 
@@ -125,10 +125,14 @@ impl Record {
     }
 }
 
-/// The last of `x` is that of CO of class 3.
+/// The last of `x` is that of CO of class 3. `total_grams` and `total_rests` are the exact totals by fuel and quantity: each must
+/// be the sum of its four kinds, else the run is refused with 16. Whoever writes `grams` or `rests` by hand writes their total too.
 #[repr(C)]
 #[derive(Clone, Copy, Debug, PartialEq)]
-pub struct Run { pub trip: u64, pub x: [u64; 16], pub count: u64, pub km: [u64; 3], pub grams: [u64; 60], pub rests: [u64; 60] }
+pub struct Run {
+    pub trip: u64, pub x: [u64; 16], pub count: u64, pub km: [u64; 3], pub grams: [u64; 60], pub rests: [u64; 60],
+    pub total_grams: [u64; 15], pub total_rests: [u64; 15],
+}
 
 /// Sixteen areas under one head: the run of each, and how many records they have beyond 300 in all. Calls change it in
 /// place, so it is not `Copy`: a copy made unseen would be changed instead.
@@ -139,7 +143,9 @@ pub struct Areas { pub runs: [Run; 16], pub common: u64 }
 impl Areas {
     /// Memory to open areas in. Not opened, they are not in order.
     pub const fn zeros() -> Areas {
-        Areas { runs: [Run { trip: 0, x: [0; 16], count: 0, km: [0; 3], grams: [0; 60], rests: [0; 60] }; 16], common: 0 }
+        let zeros =
+            Run { trip: 0, x: [0; 16], count: 0, km: [0; 3], grams: [0; 60], rests: [0; 60], total_grams: [0; 15], total_rests: [0; 15] };
+        Areas { runs: [zeros; 16], common: 0 }
     }
 }
 

@@ -68,11 +68,19 @@ def run_of(run):
     made.trip, made.count = run.trip, run.count
     made.x, made.km = run.x.values(), run.km.values()
     made.grams, made.rests = [run.grams[place] for place in vectors.PLACES], [run.rests[place] for place in vectors.PLACES]
+    made.total_grams = [run.total_grams[place] for place in vectors.TOTALS]
+    made.total_rests = [run.total_rests[place] for place in vectors.TOTALS]
     return made
 
 
+def settle(run):
+    """The stored totals of a run of the reference follow its kinds, which were changed by hand."""
+    for place in vectors.TOTALS:
+        run.total_grams[place], run.total_rests[place] = divmod(run.exact_total(*place), 10**9)
+
+
 def words(run):
-    return [run.trip, *run.x, run.count, *run.km, *run.grams, *run.rests]
+    return [run.trip, *run.x, run.count, *run.km, *run.grams, *run.rests, *run.total_grams, *run.total_rests]
 
 
 def same_run(found, wanted, what):
@@ -129,7 +137,7 @@ WRONG_HEADS = [(9, [100] * 12), (201, [401] * 12), (120, [100] * 11 + [401]), (2
 
 def runs(rng):
     """Runs of opening, adding and lists, and runs out of order."""
-    same(h.layout(), (h.LAYOUT, 1128), "layout")
+    same(h.layout(), (h.LAYOUT, 1368), "layout")
     fleet = [vectors.some_record(rng) for _ in range(30)]
     fleet[7:7] = [(8, 1, 1, (100, 0, 0), (10, 10, 10)), (2, 10**6, 1001, (40, 40, 20), (20, 60, 100))]
     head = sheets.some_head(rng)
@@ -154,6 +162,7 @@ def runs(rng):
         setattr(bad_wanted, field, dict(zip(ref.X_NAMES, value)) if field == "x" else value)
         questions(bad, bad_wanted, rng)
         same(outcome(h.add, bad, record_of(fleet[0])), refused(16), "add to a run out of order")
+    totals(run, wanted, rng)
     for bad in WRONG_HEADS:
         number, _ = ref.open_run(bad)
         same(outcome(h.open_run, head_of(bad)), refused(number), "open_run of %s" % (bad,))
@@ -179,6 +188,28 @@ def runs(rng):
     listed(full, full, "add_list of 5,001 records")
     number, run = 0, h.add_list(head_of(head), full).run
     same(outcome(h.add, run, record_of(vectors.EXAMPLE)), refused(9), "add to a full run")
+
+
+def totals(run, wanted, rng):
+    """Each stored total of a run is that of its four kinds; broken in every way it is 16 from every call."""
+    record = record_of(vectors.EXAMPLE)
+    for i, place in enumerate(vectors.TOTALS):
+        same(run.total_grams[i] * 10**9 + run.total_rests[i], wanted.exact_total(*place), "the total of fuel %d, quantity %d" % place)
+        for grams, rest in vectors.broken(wanted, place):
+            bad, bad_wanted, what = h.Run.from_buffer_copy(run), wanted.copy(), "a run whose total of %d, %d is %d and %d" % (*place, grams, rest)
+            bad.total_grams[i], bad.total_rests[i] = bad_wanted.total_grams[place], bad_wanted.total_rests[place] = grams, rest
+            same((h.in_order(bad), ref.in_order(bad_wanted)), (False, False), what)
+            for call in (lambda: h.total(bad, *place), lambda: h.kinds(bad, *place), lambda: h.balance(bad, *place, 1000), lambda: h.report(bad),
+                         lambda: h.co2(bad, place[0], 1800), lambda: h.so2(bad, 1, 10), lambda: h.lead(bad, 1, 5), lambda: h.map_row(bad, *place),
+                         lambda: h.figure(bad, *place, "cold"), lambda: h.add(bad, record), lambda: h.join(bad, run), lambda: h.join(run, bad)):
+                same(outcome(call), refused(16), what)
+        if i % 7 == 0:
+            questions(bad, bad_wanted, rng)
+    moved = h.Run.from_buffer_copy(run)
+    moved.grams[0], moved.grams[1] = run.grams[1], run.grams[0]
+    same(h.in_order(moved), True, "two kinds of one total exchanged")
+    moved.grams[1], moved.grams[4] = run.grams[4], run.grams[1]
+    same(h.in_order(moved), False, "kinds of two totals exchanged")
 
 
 def joins(rng):
@@ -302,10 +333,11 @@ def days(rng):
 def digits():
     """Balances by the digits worked, FC of diesel set by hand: 6 to 12, 12 without an end, and S a multiple of it."""
     wanted = ref.open_run((120, vectors.MILD))[1]
-    wanted.count, wanted.grams[2, 1, "cold"] = 1, 987654321
+    wanted.count, wanted.grams[2, 1, "cold"] = 1, 987654321  # its total follows below
     for worked, f, sold in ((6, 10**6, 1), (7, 1250000, 1), (8, 800000, 1), (9, 1953125, 1), (10, 3200000, 3), (11, 1280000, 1), (12, 2560000, 3),
                             (12, 1024000, 1), (12, 999983, 1), (None, 1000, 1000), (None, 1000, 0)):
         wanted.grams[2, 5, "rural"] = f
+        settle(wanted)
         number, *balance = ref.balance(wanted, 2, 1, sold)
         found = outcome(h.balance, run_of(wanted), 2, 1, sold)
         same(found, either(number, tuple(balance)), "balance of %d t and %d g" % (sold, f))
@@ -404,6 +436,9 @@ def areas_out_of_order():
     def of_class_3(lent):
         lent.runs[4].x[15] += 1
 
+    def off_by_one(area, field, place):
+        return lambda lent: getattr(lent.runs[area], field).__setitem__(place, getattr(lent.runs[area], field)[place] ^ 1)
+
     def setting(area, field, value, common=0):
         return lambda lent: (setattr(lent.runs[area], field, value), setattr(lent, "common", common))
 
@@ -412,6 +447,7 @@ def areas_out_of_order():
              damaged(setting(4, "count", 301, 2)), damaged(setting(4, "count", 501, 201)), damaged(setting(4, "count", 5001, 4701)),
              damaged(of_class_3), damaged(lambda lent: lent.runs.__setitem__(0, other)), damaged(lambda lent: lent.runs.__setitem__(15, warmer)),
              h.Areas([other] + [h.open_run(head)] * 15, 0), h.Areas([h.Run()] * 16, 0)]
+    cases += [damaged(off_by_one(area, field, place)) for area in (2, 9) for field in ("total_grams", "total_rests") for place in (0, 3, 14)]
     for place, lent in enumerate(cases):
         before = bytes(lent)
         for area in (0, 4, 15, 16):
@@ -559,7 +595,10 @@ def wrong_arguments():
     same(list(other.x), list(run.x), "values X from another run")
     row = (h.c_uint64 * 9)(2, 1000, 10000, *shares, *speeds)
     same(words(h.add_list(head, row).run), words(run), "a list from an array")
-    same(outcome(h.Run().grams.__setitem__, 3, 2**64), error("grams", "18446744073709551616 is not a 64-bit number"), "grams set to 2^64")
+    for name in ("grams", "rests", "total_grams", "total_rests"):
+        same(outcome(getattr(h.Run(), name).__setitem__, 3, 2**64), error(name, "18446744073709551616 is not a 64-bit number"), name + " set to 2^64")
+    for count in (14, 16):
+        same(outcome(setattr, h.Run(), "total_rests", [0] * count), error("total_rests", "15 numbers are wanted, %d given" % count), "%d totals" % count)
     # questions
     asked = {"total": ("fuel", "quantity"), "kinds": ("fuel", "quantity"), "balance": ("fuel", "quantity", "sold"), "co2": ("fuel", "hydrogen"),
              "so2": ("fuel", "sulphur"), "lead": ("fuel", "content"), "map_row": ("fuel", "quantity")}
@@ -572,7 +611,7 @@ def wrong_arguments():
                 values = [1] * len(names)
                 values[place] = value
                 same(outcome(function, run, *values), error(name, said), "%s with %s %r" % (call, name, value))
-        for value in (None, 5, bytes(1128), head):
+        for value in (None, 5, bytes(1368), head):
             same(outcome(function, value, *[1] * len(names)), error("run", "a Run is wanted, %r given" % (value,)), "%s of %r" % (call, value))
     for place, name in ((0, "fuel"), (1, "quantity")):
         for value, said in NOT_NUMBERS:
@@ -584,7 +623,7 @@ def wrong_arguments():
     # areas
     part, lent = h.record(2, 1, 1, shares, speeds), h.open_areas(head)
     whole = bytes(lent)
-    for value in (None, 5, bytes(18056), run, [run] * 16):
+    for value in (None, 5, bytes(21896), run, [run] * 16):
         same(outcome(h.add_area, value, 3, part), error("areas", "an Areas is wanted, %r given" % (value,)), "add_area to %r" % (value,))
         same(outcome(h.area_run, value, 3), error("areas", "an Areas is wanted, %r given" % (value,)), "area_run of %r" % (value,))
     for value, said in NOT_NUMBERS:
@@ -597,18 +636,18 @@ def wrong_arguments():
     for count in (0, 1, 15, 17):
         same(outcome(setattr, lent, "runs", [run] * count), error("runs", "sixteen runs are wanted, %d given" % count), "%d runs" % count)
         same(outcome(h.Areas, [run] * count), error("runs", "sixteen runs are wanted, %d given" % count), "%d runs" % count)
-    for value in (5, None, [0] * 141, bytes(1128), head, lent):
+    for value in (5, None, [0] * 171, bytes(1368), head, lent):
         for call in (lambda: setattr(lent, "runs", [run] * 15 + [value]), lambda: lent.runs.__setitem__(3, value),
                      lambda: lent.runs.__setitem__(slice(0, 2), [run, value])):
             same(outcome(call), error("runs", "a Run is wanted, %r given" % (value,)), "a run set to %r" % (value,))
-    for value, fields in ((lent, "runs, common"), (h.Run(), "trip, x, count, km, grams, rests"),
+    for value, fields in ((lent, "runs, common"), (h.Run(), "trip, x, count, km, grams, rests, total_grams, total_rests"),
                           (h.Head(120, [100] * 12), "trip, temps, first, last")):
         name = type(value).__name__
         same(outcome(setattr, value, "comon", 3), "AttributeError: %s has no field comon; its fields are %s" % (name, fields), "a misspelt field of %s" % name)
     same(bytes(lent) == whole, True, "areas after refused changes")
     same(h.add_area(lent, Index(3), part).runs[3].count, 1, "an area's number of another type")
     # joins
-    for value in (None, 5, bytes(1128), head, part, lent, [run], (run, run)):
+    for value in (None, 5, bytes(1368), head, part, lent, [run], (run, run)):
         same(outcome(h.join, value, run), error("first", "a Run is wanted, %r given" % (value,)), "join of %r and a run" % (value,))
         same(outcome(h.join, run, value), error("second", "a Run is wanted, %r given" % (value,)), "join of a run and %r" % (value,))
     # the rest
@@ -653,7 +692,7 @@ def other_libraries():
             source, library = os.path.join(folder, "other.c"), os.path.join(folder, "other.so")
             with open(source, "w", encoding="utf-8") as file:
                 file.write("struct layout { unsigned long version, size; };\n")
-                file.write("struct layout haldurap_layout(void) { return (struct layout){%d, 1128}; }\n" % version)
+                file.write("struct layout haldurap_layout(void) { return (struct layout){%d, 1368}; }\n" % version)
                 file.write("".join("void %s(void) {}\n" % call for call in there))
             subprocess.run(["gcc", "-shared", "-fPIC", "-o", library, source], check=True)
             ended = subprocess.run([sys.executable, "-c", "import haldurap"], cwd=os.path.join(ROOT, "examples"), capture_output=True, text=True,

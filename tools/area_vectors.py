@@ -3,7 +3,7 @@
     python3 tools/area_vectors.py            writes crates/area_vectors/stdin and crates/area_vectors/stdout
     python3 tools/area_vectors.py --check    exits 1 if the two files are not what it would write
 
-The program keeps 2,400 numbers, all 0 at first, of which it lends the first 2,257. Where areas were opened and not changed
+The program keeps 2,880 numbers, all 0 at first, of which it lends the first 2,737. Where areas were opened and not changed
 by hand since, each run and each total is also held against the tally of its area.
 
     lend N                                               nothing; from now on the first N numbers are lent
@@ -12,7 +12,7 @@ by hand since, each run and each total is also held against the tally of its are
     put PLACE VALUE                                      nothing; one of the numbers changed by hand
     run AREA                                             number; then every number of the run
     total AREA FUEL QUANTITY                             number of the run of the area; number and grams of its total, or 0 0
-    all                                                  every one of the 2,400 numbers
+    all                                                  every one of the 2,880 numbers
 """
 import random
 from fractions import Fraction
@@ -20,16 +20,17 @@ from fractions import Fraction
 import reference as ref
 import tight_list
 import vectors
-from vectors import EXAMPLE, MAX, MILD, PLACES, YEAR, some_days, some_record
+from vectors import EXAMPLE, MAX, MILD, PLACES, TOTALS, YEAR, some_days, some_record
 
-NUMBERS = 2400
-LENT = 2257
-COMMON = 2256
+NUMBERS = 2880
+LENT = 2737
+COMMON = 2736
 
-# What stands where in the 141 numbers of a run: the field, and the key where it has several.
+# What stands where in the 171 numbers of a run: the field, and the key where it has several.
 WORDS = ([("trip",)] + [("x", name) for name in ref.X_NAMES] + [("count",)] + [("km", fuel) for fuel in ref.FUELS]
-         + [(field, place) for field in ("grams", "rests") for place in PLACES])
-TRIP, X, COUNT, KM, GRAMS, RESTS = 0, 1, 17, 18, 21, 81
+         + [(field, place) for field in ("grams", "rests") for place in PLACES]
+         + [(field, place) for field in ("total_grams", "total_rests") for place in TOTALS])
+TRIP, X, COUNT, KM, GRAMS, RESTS, TOTAL_GRAMS, TOTAL_RESTS = 0, 1, 17, 18, 21, 81, 141, 156
 
 MOST = (6, 1000000, 1000, (100, 0, 0), (130, 130, 130))
 COLD = [-300] * 12
@@ -120,7 +121,7 @@ class Answers:
     line = vectors.Answers.line
 
 
-class Cases(vectors.AnsweredCases):
+class Cases(vectors.Cases):
     """The lines of standard input; numbers changed by hand can be put back."""
 
     def open(self, trip, temps, first=0, last=0, number=0):
@@ -136,6 +137,14 @@ class Cases(vectors.AnsweredCases):
     def put(self, changes):
         for place, value in changes.items():
             self.say("put", place, value)
+
+    def settle(self):
+        """The stored totals follow their kinds, which were changed by hand: the numbers put for that."""
+        word = {vectors.TOTAL: TOTAL_GRAMS, vectors.TOTAL_REST: TOTAL_RESTS}
+        changes = {at(area, word[field] + i): value for area, run in enumerate(self.answers.areas.runs)
+                   for field, i, value in vectors.unsettled(run)}
+        self.put(changes)
+        return changes
 
     def runs(self, areas=ref.AREAS):
         for area in areas:
@@ -158,10 +167,12 @@ class Cases(vectors.AnsweredCases):
         for area in ref.AREAS:
             self.add(area, EXAMPLE, number=18)
 
-    def changed(self, number, changes, area=5):
-        """Numbers changed by hand, asked about, and put back; 16 fits them, or none does (number 0)."""
+    def changed(self, number, changes, area=5, settle=True):
+        """Numbers changed by hand, the totals with them, asked about, and put back; 16 fits them, or none does (number 0)."""
         before = self.answers.all()
         self.put(changes)
+        if settle:
+            changes = changes | self.settle()
         self.total(area, number=number)
         # Where an add would be taken, one that 3 fits leaves the areas as they are.
         self.add(area, EXAMPLE if number else BAD[0], number=number or 3)
@@ -352,11 +363,11 @@ def openings(c):
 
 
 def lengths(c):
-    """Another length than 2,257: 16 first in every call, and no number changes, neither lent nor behind."""
+    """Another length than 2,737: 16 first in every call, and no number changes, neither lent nor behind."""
     begun(c)
     c.put({LENT: 4711, LENT + 1: MAX, NUMBERS - 1: 1815})
     c.say("all")
-    for length in (0, 1, 141, 2256, 2258, 2400):
+    for length in (0, 1, 171, 2257, LENT - 1, LENT + 1, NUMBERS):
         c.say("lend", length)
         c.open(120, MILD, number=16)
         c.open(9, [401] * 12, number=16)
@@ -373,13 +384,13 @@ def lengths(c):
     c.say("all")
     # Areas out of order, and of zeros.
     c.put({COMMON: 0})
-    c.say("lend", 2256)
+    c.say("lend", LENT - 1)
     c.open(9, MILD, number=16)
     c.add(16, BAD[0], number=16)
     c.total(16, number=16)
     c.say("lend", LENT)
     c.open(9, MILD, number=1)
-    c.say("lend", 2258)
+    c.say("lend", LENT + 1)
     c.open(120, MILD, number=16)
     c.add(0, EXAMPLE, number=16)
     c.total(0, number=16)
@@ -508,9 +519,56 @@ def sums(c):
     # At its limits an area takes one more and is still in order.
     c.put({at(5, word): 20 * 10**12 if word < RESTS else 0 for word in range(GRAMS, RESTS + 60)})
     c.put({at(5, KM + i): 20 * 10**9 for i in range(3)})
+    c.settle()
     for cls in (6, 1, 4):
         c.add(5, (cls, *MOST[1:]), number=0)
     c.runs((5, 16))
+
+
+def totals(c):
+    """A stored total of one area broken, whichever area is asked: each total in every way, and in each of the sixteen areas."""
+    begun(c)
+    # an area with grams and rests in every place, PM of gasoline and LPG too
+    for rests in (vectors.WHOLE_GRAMS, vectors.WITH_REST):
+        c.put({at(5, GRAMS + i): 10**11 + 71 * i for i in range(60)})
+        c.put({at(5, RESTS + i): rests[i // 4 % len(rests)][i % 4] for i in range(60)})
+        c.settle()
+        c.say("run", 5, number=0)
+        for i, place in enumerate(TOTALS):
+            for grams, rest in vectors.broken(c.answers.areas.runs[5], place):
+                c.changed(16, {at(5, TOTAL_GRAMS + i): grams, at(5, TOTAL_RESTS + i): rest}, (5, 0, 4)[i % 3], settle=False)
+    c.totals((5,))
+    # every area, also those without a record, whose totals are 0
+    for area in ref.AREAS:
+        for i in range(area % 3, 15, 3):
+            now = [c.answers.all()[at(area, word + i)] for word in (TOTAL_GRAMS, TOTAL_RESTS)]
+            for word, value in ((TOTAL_GRAMS, now[0] + 1), (TOTAL_RESTS, now[1] + 1)):
+                c.changed(16, {at(area, word + i): value}, (area + 9 * i) % 16, settle=False)
+    for area in (4, 7, 15):
+        for i in (0, 3, 14):
+            for value in (10**9, 2**32, 2**63, MAX):
+                c.changed(16, {at(area, TOTAL_RESTS + i): value}, settle=False)
+                c.changed(16, {at(area, TOTAL_GRAMS + i): value}, settle=False)
+    # totals of two areas exchanged, and one as much above as the other below
+    for one, other in ((0, 15), (2, 3)):
+        all_numbers = c.answers.all()
+        exchanged = {at(a, word + i): all_numbers[at(b, word + i)] for a, b in ((one, other), (other, one))
+                     for word in (TOTAL_GRAMS, TOTAL_RESTS) for i in range(15)}
+        c.changed(16, exchanged, settle=False)
+        for i in (0, 5, 10):
+            c.changed(16, {at(one, TOTAL_GRAMS + i): all_numbers[at(one, TOTAL_GRAMS + i)] + 1,
+                           at(other, TOTAL_GRAMS + i): (all_numbers[at(other, TOTAL_GRAMS + i)] - 1) % 2**64}, settle=False)
+    # 16 before 17, before the record and before 18; then put back, and the totals rise with the next records
+    c.put({at(9, TOTAL_RESTS + 7): 1})
+    for area in (2, 9, 16, MAX):
+        for record in (EXAMPLE, BAD[0], BAD[5]):
+            c.add(area, record, number=16)
+        c.say("run", area, number=16)
+    c.settle()
+    for cls in range(1, 8):
+        c.add(5, (cls, 1, 1, (40, 40, 20), (20 + cls, 60, 100)), number=0)
+        c.say("run", 5, number=0)
+    c.totals((5, 9))
 
 
 def largest(c):
@@ -610,13 +668,13 @@ def cases():
     """Every line of standard input, and what each is answered."""
     c = Cases(Answers())
     for part in (example, one_filled, common_used, own_kept, no_area, grounds, several_wrong, openings, lengths, heads, counts, sums,
-                 largest, loops, anything, dated):
+                 largest, loops, anything, dated, totals):
         part(c)
     return c
 
 
 def main():
-    vectors.write_answered("area_vectors", cases())
+    vectors.write_cases("area_vectors", cases())
 
 
 if __name__ == "__main__":

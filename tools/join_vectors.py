@@ -9,12 +9,12 @@ joins are taken, and count, kilometres and totals are held against it.
 
     open R L T.. FIRST LAST                                number; run R is what opening gave (zeros where refused)
     add R TIMES CLASS VEHICLES KM SHARES.. SPEEDS..        number of the last add (0 for none), record count of run R
-    set R FIELD INDEX VALUE                                nothing; a field of run R changed by hand
+    set R FIELD INDEX VALUE                                nothing; a field of run R changed by hand, fields as in tools/vectors.py
     join R A B                                             number; run R is what joining A and then B gave back
     divide L T.. FIRST LAST                                number; areas opened
     inside AREA TIMES CLASS VEHICLES KM SHARES.. SPEEDS..  number of the last add to the area (0 for none)
     take R AREA                                            number; run R is the run of the area (zeros where refused)
-    fields R                                               every field of the run
+    fields R                                               every field of the run; grams and rest of each sum, then of each total
     grams R FUEL QUANTITY                                  number, grams of the total
     balance R FUEL QUANTITY S                              number, k, digits worked, grams
     row R FUEL QUANTITY                                    number and the four floats, or the number alone
@@ -28,7 +28,8 @@ import reference as ref
 import tight_list
 import vectors
 from area_vectors import BAD, COLD, FLEET, MOST
-from vectors import COUNT, EXAMPLE, GRAMS, KM, MAX, MILD, PLACES, REST, TRIP, X, YEAR, some_days, some_record
+from vectors import (COUNT, EXAMPLE, GRAMS, KM, MAX, MILD, PLACES, REST, TOTAL, TOTAL_REST, TOTALS, TRIP, WHOLE_GRAMS, WITH_REST, X, YEAR,
+                     some_days, some_record)
 
 RUNS = range(8)
 LPG_NOX = 3, ref.NOX
@@ -177,9 +178,7 @@ class Answers:
 
     def fields(self, r):
         self.held(r, ref.X_NAMES[:15])
-        one = vectors.Answers()
-        one.run = self.runs[r]
-        return one.fields()
+        return vectors.fields(self.runs[r])
 
     def grams(self, r, fuel, quantity):
         self.held(r, [(fuel, quantity)] if (fuel, quantity) in ref.X_NAMES else [])
@@ -199,7 +198,7 @@ class Answers:
     line = vectors.Answers.line
 
 
-class Cases(vectors.AnsweredCases):
+class Cases(vectors.Cases):
     """The lines of standard input."""
 
     def run(self, r):
@@ -236,6 +235,16 @@ class Cases(vectors.AnsweredCases):
     def set(self, r, field, index, value):
         self.say("set", r, field, index, value)
 
+    def settle(self, *runs):
+        """The stored totals of these runs follow their kinds, which were changed by hand."""
+        for r in runs:
+            for change in vectors.unsettled(self.run(r)):
+                self.set(r, *change)
+
+    def set_total(self, r, index, grams, rest):
+        self.set(r, TOTAL, index, grams)
+        self.set(r, TOTAL_REST, index, rest)
+
     def take(self, r, area, number=0):
         self.say("take", r, area, number=number)
 
@@ -271,15 +280,17 @@ class Cases(vectors.AnsweredCases):
         assert number != 0 or vars(self.run(r)) == vars(self.run(r + 1))
 
     def by_hand(self, r, changes, asked):
-        """Fields (field, index) changed by hand, something asked, and the fields put back."""
+        """Fields (field, index) changed by hand, the totals with them, something asked, and all put back."""
         fields = {TRIP: lambda run, i: run.trip, X: lambda run, i: run.x[ref.X_NAMES[i]], COUNT: lambda run, i: run.count,
                   KM: lambda run, i: run.km[ref.FUELS[i]], GRAMS: lambda run, i: run.grams[PLACES[i]], REST: lambda run, i: run.rests[PLACES[i]]}
         before = {place: fields[place[0]](self.run(r), place[1]) for place in changes}
         for (field, index), value in changes.items():
             self.set(r, field, index, value)
+        self.settle(r)
         asked()
         for (field, index), value in before.items():
             self.set(r, field, index, value)
+        self.settle(r)
 
 
 def two_crews(c):
@@ -496,6 +507,68 @@ def out_of_order(c):
     c.fields(2)
 
 
+def totals(c):
+    """Stored totals: each broken in every way, in the first run, in the second, in both; totals added up with and without a carry."""
+    def with_sums(r, rests):
+        """A run by hand with grams of its own in every place, and these rests, four for a total."""
+        c.open(r, (120, MILD))
+        c.set(r, COUNT, 0, 3 + r)
+        for i in range(60):
+            c.set(r, GRAMS, i, 10**11 + (71 + r) * i)
+            c.set(r, REST, i, rests[i // 4 % len(rests)][i % 4])
+        c.settle(r)
+
+    with_sums(0, WITH_REST)
+    for rests in (WHOLE_GRAMS, WITH_REST):
+        with_sums(1, rests)
+        c.both_ways(2, 0, 1)
+        c.same(2, 3)
+        c.totals(2)
+        for i, place in enumerate(TOTALS):
+            for way in vectors.broken(c.run(1), place):
+                c.set_total(1, i, *way)
+                c.both_ways(2, 0, 1, 16)
+                c.join(4, 1, 1, 16)
+                for call in (("grams", 1, *place), ("grams", 1, 1, 1), ("balance", 1, *place, 400000), ("row", 1, *place), ("print", 1, 20)):
+                    c.say(*call, number=16)
+            # the first run is given back as it came, its broken total too
+            if i % 7 == 0:
+                c.fields(2, 3, 4)
+            c.settle(1)
+            c.join(2, 0, 1)
+    # broken in both, so that together it would be right; then 16 before 21 and 22
+    c.set(0, TOTAL, 0, c.run(0).total_grams[1, ref.CO] + 1)
+    c.set(1, TOTAL, 0, c.run(1).total_grams[1, ref.CO] - 1)
+    c.both_ways(2, 0, 1, 16)
+    c.settle(0)
+    for changes in ({(X, 0): 5}, {(COUNT, 0): 5000}, {(TRIP, 0): 121, (COUNT, 0): 5000}):
+        for (field, index), value in changes.items():
+            c.set(0, field, index, value)
+        c.both_ways(2, 0, 1, 16)
+    # totals of the other run
+    with_sums(0, WHOLE_GRAMS)
+    c.settle(1)
+    stored = [[(run.total_grams[place], run.total_rests[place]) for place in TOTALS] for run in (c.run(0), c.run(1))]
+    for i in range(15):
+        c.set_total(0, i, *stored[1][i])
+        c.set_total(1, i, *stored[0][i])
+    c.both_ways(2, 0, 1, 16)
+    c.settle(0, 1)
+    c.both_ways(2, 0, 1)
+    # rests of totals that reach a gram together where those of no kind do, and the other way round
+    pairs = [((250000000,) * 3 + (249999999,), (0, 0, 0, 1)), ((0, 0, 0, 999999999), (1, 0, 0, 0)), ((999999999, 0, 0, 0), (1, 0, 0, 0)),
+             ((999999999,) * 4, (1, 1, 1, 1)), ((999999999,) * 4, (999999999,) * 4), ((500000000, 499999999, 0, 0), (0, 0, 0, 0)),
+             ((600000000, 600000000, 0, 0), (600000000, 100000000, 100000000, 0))]
+    for turn in range(len(pairs)):
+        with_sums(0, [one for one, _ in pairs[turn:] + pairs[:turn]])
+        with_sums(1, [other for _, other in pairs[turn:] + pairs[:turn]])
+        c.both_ways(2, 0, 1)
+        c.same(2, 3)
+        c.totals(2)
+        c.join(2, 2, 2)
+        c.fields(2)
+
+
 def five_thousand(c):
     """22: 5,000 records together are taken, one more is not; also beside a run without records, and by counts set by hand."""
     head = 63, YEAR
@@ -531,14 +604,17 @@ def carries(c):
         for one, other in pairs[:3]:
             c.set(0, REST, i, one)
             c.set(1, REST, i, other)
+            c.settle(0, 1)
             c.both_ways(2, 0, 1)
             c.say("grams", 2, i // 20 + 1, i // 4 % 5 + 1)
         # no other place has anything
         c.set(0, REST, i, 999999999)
+        c.settle(0)
         c.join(2, 0, 1)
         c.fields(2)
         c.set(0, REST, i, 0)
         c.set(1, REST, i, 0)
+        c.settle(0, 1)
     # all places at once, each with another pair than its neighbours
     for turn in range(0, len(pairs), 2):
         for i in range(60):
@@ -546,6 +622,7 @@ def carries(c):
             for r, rest, grams in ((0, one, 71 * i), (1, other, 10**9 + 13 * i)):
                 c.set(r, REST, i, rest)
                 c.set(r, GRAMS, i, grams)
+        c.settle(0, 1)
         c.both_ways(2, 0, 1)
         c.same(2, 3)
         c.totals(2)
@@ -564,6 +641,7 @@ def limits(c):
                 c.set(r, GRAMS, i, count * 10**12)
             for i in range(3):
                 c.set(r, KM, i, count * 10**9)
+            c.settle(r)
         c.both_ways(2, 0, 1)
         c.same(2, 3)
         c.totals(2)
@@ -580,6 +658,7 @@ def limits(c):
             if i % 3 != r:
                 c.set(r, GRAMS, i, count * 10**12 - 1)
                 c.set(r, REST, i, 999999999)
+    c.settle(0, 1)
     c.both_ways(2, 0, 1)
     c.same(2, 3)
     c.totals(2)
@@ -946,6 +1025,7 @@ def questions(c):
         c.set(r, REST, 3, 250000000)
     for rest, length in ((250000000, 97), (249999999, 0)):
         c.set(1, REST, 3, rest)
+        c.settle(0, 1)
         c.join(2, 0, 1)
         assert len(ref.report_text(c.run(2))) == length and ref.report_text(c.run(0)) == b""
         c.say("print", 2, 97)
@@ -954,6 +1034,7 @@ def questions(c):
     for r in (0, 1):
         c.set(r, GRAMS, PLACES.index((1, ref.FC, "rural")), 499999)
         c.set(r, REST, PLACES.index((1, ref.FC, "rural")), 999999999)
+    c.settle(0, 1)
     c.join(2, 0, 1)
     for sold in (1, 0, 2):
         c.say("balance", 2, 1, ref.FC, sold)
@@ -1012,12 +1093,12 @@ def anything(c):
 
 def main():
     c = Cases(Answers())
-    for part in (two_crews, own_heads, months_exchanged, dated_and_not, heads_differ, grounds, out_of_order, five_thousand, carries, limits,
+    for part in (two_crews, own_heads, months_exchanged, dated_and_not, heads_differ, grounds, out_of_order, totals, five_thousand, carries, limits,
                  shapes, itself, fresh_runs, refused_between, further_adds, areas, other_areas, tight, questions, anything):
         part(c)
     # each number was met, also by histories where it can be
     assert set(c.answers.joins) == {0, 16, 21, 22} and set(c.answers.of_histories) == {0, 21, 22} and c.answers.near > 1000
-    vectors.write_answered("join_vectors", c)
+    vectors.write_cases("join_vectors", c)
 
 
 if __name__ == "__main__":

@@ -5,7 +5,7 @@
 
     open L T.. FIRST LAST                           number; the days are 0 and 0 for a head without dates
     add TIMES CLASS VEHICLES KM SHARES.. SPEEDS..   number of the last add, record count
-    put FIELD INDEX VALUE                           nothing; a field of the run changed by hand
+    put FIELD INDEX VALUE                           nothing; a field of the run changed by hand, fields as in tools/vectors.py
     co2 FUEL R                                      number, grams
     so2 FUEL S                                      number, grams
     lead FUEL L                                     number, grams
@@ -16,7 +16,7 @@ import random
 
 import reference as ref
 import vectors
-from vectors import COUNT, EXAMPLE, GRAMS, KM, MAX, MILD, PLACES, REST, TRIP, X, YEAR
+from vectors import COUNT, EXAMPLE, GRAMS, KM, MAX, MILD, PLACES, REST, TOTALS, TRIP, WHOLE_GRAMS, WITH_REST, X, YEAR
 
 # R, s and l at their ends, the values that the specification prints, and beside them.
 HYDROGEN = (0, 1, 1800, 1999, 3999, 4000, 4001, MAX)
@@ -52,6 +52,7 @@ class Cases(vectors.Cases):
         self.set(COUNT, 0, count)
         self.set(GRAMS, PLACES.index((fuel, ref.FC, "rural")), grams)
         self.set(REST, PLACES.index((fuel, ref.FC, "rural")), rest)
+        self.settle()
 
 
 def example(c):
@@ -90,6 +91,7 @@ def order(c):
         c.open(120, MILD)
         c.add(EXAMPLE)
         c.set(field, index, value)
+        c.settle()
         for fuel in (1, 4):
             c.contents(fuel)
             c.say("row", fuel, 1)
@@ -97,6 +99,27 @@ def order(c):
             for kind in range(4):
                 c.say("figure", fuel, 4, kind)
                 c.say("figure", fuel, 6, kind)
+
+
+def totals(c):
+    """16 where a stored total is broken, whichever it is and whatever is asked."""
+    for rests in (WHOLE_GRAMS, WITH_REST):
+        vectors.with_sums(c, rests)
+        for i, place in enumerate(TOTALS):
+            for way in vectors.broken(c.answers.run, place):
+                c.set_total(i, *way)
+                for call in (("co2", place[0], 1800), ("so2", place[0], 10), ("lead", place[0], 5), ("row", *place), ("row", 1, 1)):
+                    c.say(*call, number=16)
+                for kind in range(4):
+                    c.say("figure", *place, kind, number=16)
+            c.settle()
+            c.say("co2", place[0], 1800, number=0)
+            c.say("row", *place, number=0)
+        c.map()
+    # before 11 and 15, and for a figure that is not given
+    c.set_total(9, 0, 0)
+    for call in (("co2", 4, 1800), ("so2", 1, 10001), ("lead", 0, MAX), ("row", 4, 1), ("row", 1, 6), ("figure", 1, 4, 3), ("figure", 0, 0, 0)):
+        c.say(*call, number=16)
 
 
 def halves(c):
@@ -133,12 +156,14 @@ def large(c):
         for i in range(60):
             c.set(GRAMS, i, grams)
             c.set(REST, i, rest)
+        c.settle()
         c.contents(2)
         c.map((1, 2, 3), (1, 4, 5))
     # Another sum in every place.
     for i in range(60):
         c.set(GRAMS, i, rng.randrange(5 * 10**15))
         c.set(REST, i, rng.randrange(10**9))
+    c.settle()
     for fuel in ref.FUELS:
         c.contents(fuel)
     c.map()
@@ -207,10 +232,10 @@ class Answers(vectors.Answers):
 
 
 def main():
-    c, answers = Cases(), Answers()
-    for part in (example, fleet, order, halves, large, full_runs, dated):
+    c = Cases(Answers())
+    for part in (example, fleet, order, halves, large, full_runs, dated, totals):
         part(c)
-    vectors.write_lines("questions", c.lines, answers)
+    vectors.write_cases("questions", c)
 
 
 if __name__ == "__main__":

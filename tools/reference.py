@@ -1,5 +1,5 @@
 """The inventory in exact whole numbers, written from the customer's request alone: "COPERT II inventory core", its
-document 01, and the jobs of its document 02 that have landed (1 to 6), of which docs/SPECIFICATION.md says the same in our
+document 01, and the jobs of its document 02 that have landed (1 to 7), of which docs/SPECIFICATION.md says the same in our
 own words. Nothing here comes from the Rattle code. Lists of records, and the number and line beside a text, are from
 SPECIFICATION, "Lists of records" and "Report"; the order of the numbers of lent areas is from that page too.
 
@@ -76,7 +76,8 @@ X_NAMES = [(f, q) for f in FUELS for q in QUANTITIES] + [CLASS_3_CO]
 
 
 class Run:
-    """L, X by X_NAMES, the count, kilometres by fuel, and grams and rests by (fuel, quantity, kind)."""
+    """L, X by X_NAMES, the count, kilometres by fuel, grams and rests by (fuel, quantity, kind), and since job 7 those of the
+    totals by (fuel, quantity)."""
 
     def __init__(self):
         self.trip = 0
@@ -85,17 +86,28 @@ class Run:
         self.km = {f: 0 for f in FUELS}
         self.grams = {(f, q, k): 0 for f in FUELS for q in QUANTITIES for k in KINDS}
         self.rests = dict(self.grams)
+        self.total_grams = {(f, q): 0 for f in FUELS for q in QUANTITIES}
+        self.total_rests = dict(self.total_grams)
 
     def copy(self):
         """The same run in a place of its own."""
         other = Run()
         other.trip, other.x, other.count = self.trip, dict(self.x), self.count
         other.km, other.grams, other.rests = dict(self.km), dict(self.grams), dict(self.rests)
+        other.total_grams, other.total_rests = dict(self.total_grams), dict(self.total_rests)
         return other
 
     def sum(self, fuel, quantity, kind):
         """A sum in billionths of a gram."""
         return self.grams[fuel, quantity, kind] * 10**9 + self.rests[fuel, quantity, kind]
+
+    def exact_total(self, fuel, quantity):
+        """The four kinds together in billionths of a gram."""
+        return sum(self.sum(fuel, quantity, kind) for kind in KINDS)
+
+    def stored_total(self, fuel, quantity):
+        """What the run stores as their total, in billionths of a gram."""
+        return self.total_grams[fuel, quantity] * 10**9 + self.total_rests[fuel, quantity]
 
 
 # Job 3: areas 0 to 15, records that each has for itself, and records for whoever comes first.
@@ -216,7 +228,9 @@ def in_order(run):
             and run.count <= 5000
             and all(rest < 10**9 for rest in run.rests.values())
             and all(run.sum(*place) <= 10**12 * 10**9 * run.count for place in run.grams)
-            and all(km <= 10**9 * run.count for km in run.km.values()))
+            and all(km <= 10**9 * run.count for km in run.km.values())
+            and all(rest < 10**9 for rest in run.total_rests.values())
+            and all(run.stored_total(*place) == run.exact_total(*place) for place in run.total_grams))
 
 
 def first(grounds):
@@ -278,6 +292,8 @@ def with_record(run, record, times):
         for kind, part in zip(KINDS, parts):
             place = fuel, q, kind
             new.grams[place], new.rests[place] = divmod(run.sum(*place) + times * part, 10**9)
+        place = fuel, q
+        new.total_grams[place], new.total_rests[place] = divmod(run.stored_total(*place) + times * sum(parts), 10**9)
     new.km[fuel] += times * k
     new.count += times
     return new
@@ -319,6 +335,8 @@ def join(run, other):
         new.km[fuel] += other.km[fuel]
     for place in new.grams:
         new.grams[place], new.rests[place] = divmod(run.sum(*place) + other.sum(*place), 10**9)
+    for place in new.total_grams:
+        new.total_grams[place], new.total_rests[place] = divmod(run.stored_total(*place) + other.stored_total(*place), 10**9)
     return 0, new
 
 
@@ -369,12 +387,13 @@ def area_run(areas, area):
 
 
 def run_numbers(run):
-    """The 141 numbers of a run as it is lent: L, the values X, the count, kilometres, grams, rests."""
-    return [run.trip, *run.x.values(), run.count, *run.km.values(), *run.grams.values(), *run.rests.values()]
+    """The 171 numbers of a run as it is lent: L, the values X, the count, kilometres, grams, rests, grams and rests of totals."""
+    return [run.trip, *run.x.values(), run.count, *run.km.values(), *run.grams.values(), *run.rests.values(),
+            *run.total_grams.values(), *run.total_rests.values()]
 
 
 def areas_numbers(areas):
-    """The 2,257 numbers of areas as they are lent: run by run, then the common use."""
+    """The 2,737 numbers of areas as they are lent: run by run, then the common use."""
     return [n for run in areas.runs for n in run_numbers(run)] + [areas.common]
 
 
@@ -394,7 +413,7 @@ def total(run, fuel, quantity):
     number = question_number(run, fuel, quantity)
     if number:
         return number, 0
-    return 0, half_up(Fraction(sum(run.sum(fuel, quantity, kind) for kind in KINDS), 10**9))
+    return 0, half_up(Fraction(run.exact_total(fuel, quantity), 10**9))
 
 
 def digits_worked(sold, f):

@@ -4,7 +4,7 @@
     python3 tools/sheets.py --check    exits 1 if the two files are not what it would write
 
 A case is a label and the parts of a sheet, each with the number of times it stands there. The answer
-is the number, the line, and the run: `zeros`, or all its fields and its printed totals.
+is the number, the line, and the run: `zeros`, or all its fields, the stored totals last, and its printed totals.
 """
 import random
 
@@ -397,9 +397,8 @@ def answer(text):
     number, line, run = ref.read_sheet(text)
     if number:
         return b" %d %d zeros" % (number, line)
-    sums = [n for place in vectors.PLACES for n in (run.grams[place], run.rests[place])]
-    totals = [ref.total(run, f, q)[1] for f in ref.FUELS for q in ref.QUANTITIES]
-    return b"".join(b" %d" % n for n in (0, line, run.trip, *run.x.values(), run.count, *run.km.values(), *sums, *totals))
+    printed = [ref.total(run, *place)[1] for place in vectors.TOTALS]
+    return b"".join(b" %d" % n for n in (0, line, *vectors.fields(run), *printed))
 
 
 def main():

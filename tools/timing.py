@@ -3,7 +3,8 @@
     python3 tools/timing.py            writes crates/timing/stdout
     python3 tools/timing.py --check    exits 1 if the file is not what it would write
 
-One run of the program's fleet (5,000 records, all seven classes in turn); the program fills 400 such runs and prints the last.
+One run of the program's fleet (5,000 records, all seven classes in turn); the program fills 400 such runs and prints the last:
+grams and rest of each sum, then of each stored total.
 """
 import os
 import sys
@@ -24,8 +25,9 @@ def output():
     for i in range(5000):
         number, run = ref.add(run, record(i))
         assert number == 0, (i, number)
-    places = [(f, q, k) for f in ref.FUELS for q in ref.QUANTITIES for k in ref.KINDS]
-    return "".join(f"{run.grams[place]} {run.rests[place]}\n" for place in places)
+    sums = [(run.grams[place], run.rests[place]) for place in run.grams]
+    stored = [(run.total_grams[place], run.total_rests[place]) for place in run.total_grams]
+    return "".join(f"{grams} {rest}\n" for grams, rest in sums + stored)
 
 
 if __name__ == "__main__":

@@ -8,13 +8,14 @@ nothing with the Rattle code. Each list of totals is also held against demand 3'
 
     open L T.. FIRST LAST                           number; the days are 0 and 0 for a head without dates
     add TIMES CLASS VEHICLES KM SHARES.. SPEEDS..   number of the last add, record count
-    set FIELD INDEX VALUE                           nothing; a field of the run changed by hand
+    set FIELD INDEX VALUE                           nothing; a field of the run changed by hand (0 L, 1 X, 2 count, 3 kilometres,
+                                                    4 grams and 5 rest of a sum, 6 grams and 7 rest of a stored total)
     total FUEL QUANTITY                             number, grams
     kind FUEL QUANTITY KIND                         number, grams
     balance FUEL QUANTITY S                         number, k, digits worked, grams
     report BYTES                                    number, length; then the buffer, full of dots before
     list                                            number and grams of the four kinds and the total of each fuel and quantity
-    fields                                          every field of the run
+    fields                                          every field of the run; grams and rest of each sum, then of each stored total
 """
 import datetime
 import itertools
@@ -28,8 +29,9 @@ import reference as ref
 import tight_list
 
 MAX = 2**64 - 1
-TRIP, X, COUNT, KM, GRAMS, REST = range(6)
+TRIP, X, COUNT, KM, GRAMS, REST, TOTAL, TOTAL_REST = range(8)
 PLACES = [(f, q, k) for f in ref.FUELS for q in ref.QUANTITIES for k in ref.KINDS]
+TOTALS = [(f, q) for f in ref.FUELS for q in ref.QUANTITIES]
 MILD = [100] * 12
 # No two months alike, so that X tells which of them weigh.
 YEAR = [-50, -20, 10, 60, 110, 150, 180, 175, 130, 80, 30, -10]
@@ -37,45 +39,67 @@ EXAMPLE = (2, 1000, 10000, (40, 40, 20), (20, 60, 100))
 
 
 class Cases:
-    """The lines of standard input."""
+    """The lines of standard input, answered as they are said, so that a case can go by what was answered."""
 
-    def __init__(self):
-        self.lines = []
+    def __init__(self, answers):
+        self.lines, self.answers, self.answered = [], answers, []
 
-    def say(self, *words):
+    def say(self, *words, number=None):
+        """A line; where the case was made for a number, the first of its answer is held to it."""
         self.lines.append(" ".join(str(w) for w in words))
+        self.answered.append(self.answers.line(self.lines[-1]))
+        assert number is None or self.answered[-1].split(" = ")[1].split()[0] == str(number), self.answered[-1]
 
     def open(self, trip, temps, first=0, last=0):
         self.say("open", trip, *temps, first, last)
 
-    def add(self, record, times=1):
+    def add(self, record, times=1, number=None):
         cls, vehicles, km, shares, speeds = record
-        self.say("add", times, cls, vehicles, km, *shares, *speeds)
+        self.say("add", times, cls, vehicles, km, *shares, *speeds, number=number)
 
     def set(self, field, index, value):
         self.say("set", field, index, value)
 
-    def ask_all(self, record=EXAMPLE):
+    def settle(self):
+        """The stored totals follow their kinds, which were changed by hand."""
+        for change in unsettled(self.answers.run):
+            self.set(*change)
+
+    def set_total(self, index, grams, rest):
+        self.set(TOTAL, index, grams)
+        self.set(TOTAL_REST, index, rest)
+
+    def ask_all(self):
         """Every call that is handed a run; the add comes last, since it may change it."""
         self.say("total", 1, 1)
         self.say("kind", 1, 5, 3)
         self.say("balance", 1, 1, 1000)
         self.say("report", 400)
-        self.add(record)
+        self.add(EXAMPLE)
 
 
-class AnsweredCases(Cases):
-    """The lines of standard input, answered as they are said, so that a case can go by what was answered."""
+def unsettled(run):
+    """The stored totals that are not the sum of their four kinds: field, index, and what it has to be."""
+    changes = []
+    for i, place in enumerate(TOTALS):
+        grams, rest = divmod(run.exact_total(*place), 10**9)
+        # cut to 64 bits: a run with more is out of order by its kinds
+        for field, held, value in ((TOTAL, run.total_grams, grams % 2**64), (TOTAL_REST, run.total_rests, rest)):
+            if held[place] != value:
+                changes.append((field, i, value))
+    return changes
 
-    def __init__(self, answers):
-        super().__init__()
-        self.answers, self.answered = answers, []
 
-    def say(self, *words, number=None):
-        """A line; where the case was made for a number, the first of its answer is held to it."""
-        super().say(*words)
-        self.answered.append(self.answers.line(self.lines[-1]))
-        assert number is None or self.answered[-1].split(" = ")[1].split()[0] == str(number), self.answered[-1]
+def broken(run, place):
+    """Grams and rest of a stored total that is broken in each way: one gram more and less, one billionth more and less, one gram
+    in the rest, so that this is not below its limit; the carry of the four rests lost, or all of it in the rest; and what is as many
+    billionths where these wrap at 2^64 (10^9 is 2^9 times an odd number)."""
+    exact = run.exact_total(*place)
+    grams, rest = divmod(exact, 10**9)
+    alone, rests = (sum(part[(*place, kind)] for kind in ref.KINDS) for part in (run.grams, run.rests))
+    ways = [divmod(exact + change, 10**9) for change in (10**9, -10**9, 1, -1)]
+    ways += [(grams - 1, rest + 10**9), (alone, rest), (alone, rests), (grams + 2**55, rest)]
+    return [way for way in dict.fromkeys(ways) if way != (grams, rest) and way[0] >= 0]
 
 
 def example(c):
@@ -257,6 +281,7 @@ def balances(c):
         c.set(GRAMS, PLACES.index((3, 5, "rural")), f)
         for kind in ref.KINDS:
             c.set(GRAMS, PLACES.index((3, 1, kind)), others)
+        c.settle()
 
     # F 0 comes before S over its limit.
     fuel_used(1, 0, 5)
@@ -264,8 +289,10 @@ def balances(c):
         c.say("balance", 3, 1, sold)
     # F below half a gram prints as 0; at half a gram as 1, and k is then far above 64 bits.
     c.set(REST, PLACES.index((3, 5, "rural")), 499999999)
+    c.settle()
     c.say("balance", 3, 1, 999999999)
     c.set(REST, PLACES.index((3, 5, "rural")), 500000000)
+    c.settle()
     for sold in (0, 1, 18446744, 999999999, 1000000000):
         c.say("balance", 3, 1, sold)
     # F of 2 × 10^12: k is 499,999.5 (up to 500,000) and 1,500,000.5 (up to 1,500,001), and the steps beside them.
@@ -290,6 +317,7 @@ def balances(c):
         c.set(GRAMS, PLACES.index((3, 2, "cold")), grams)
         for f in (2000000, 1000000, 800000):
             c.set(GRAMS, PLACES.index((3, 5, "rural")), f)
+            c.settle()
             c.say("balance", 3, 2, 1)
 
 
@@ -307,12 +335,14 @@ def digits(c):
         for sold in solds:
             fuel, quantity = next(places)
             c.set(GRAMS, PLACES.index((fuel, ref.FC, "rural")), f)
+            c.settle()
             c.say("balance", fuel, quantity, sold)
 
     def fuel_used(fuel, grams, rests):
         for kind, rest in zip(ref.KINDS, rests):
             c.set(GRAMS, PLACES.index((fuel, ref.FC, kind)), grams)
             c.set(REST, PLACES.index((fuel, ref.FC, kind)), rest)
+        c.settle()
 
     # F with factors 2 and 5 only, of which the higher power tells the digits. An end behind the twelfth is none; with 2^13 the
     # remainder is then half of F, and k is rounded up.
@@ -394,6 +424,7 @@ def rounding(c):
             c.set(REST, PLACES.index((2, 4, kind)), rest)
         for grams in (0, 7):
             c.set(GRAMS, PLACES.index((2, 4, "rural")), grams)
+            c.settle()
             for kind in range(4):
                 c.say("kind", 2, 4, kind)
             c.say("total", 2, 4)
@@ -439,7 +470,7 @@ def class_3(c):
 
 
 def order(c):
-    """Each condition of `in order` at its limit and one step over, asked through every call."""
+    """Each condition of `in order` but that of the totals at its limit and one step over, asked through every call."""
     def probe(field, index, values, after):
         for value in values:
             c.open(120, MILD)
@@ -447,6 +478,7 @@ def order(c):
             c.set(field, index, value)
             for extra in after:
                 c.set(*extra)
+            c.settle()
             c.ask_all()
     probe(TRIP, 0, (0, 9, 10, 200, 201, MAX), ())
     for i in (0, 7, 14, 15):
@@ -471,6 +503,7 @@ def order(c):
         c.set(GRAMS, i, 5 * 10**15)
     for i in range(3):
         c.set(KM, i, 5 * 10**12)
+    c.settle()
     c.say("list")
     for size in (1454, 1455, 1456):
         c.say("report", size)
@@ -482,9 +515,148 @@ def order(c):
         c.set(GRAMS, i, 4999 * 10**12)
     for i in range(3):
         c.set(KM, i, 4999 * 10**9)
+    c.settle()
     c.add((6, 1000000, 1000, (100, 0, 0), (130, 130, 130)))
     c.say("fields")
     c.say("list")
+
+
+# Four rests whose sum is of whole grams, 0 to 3 of them; then with a rest beside these, 0, 1, 999,999,999 or one between.
+WHOLE_GRAMS = ((0, 0, 0, 0), (100000000, 200000000, 300000000, 400000000), (500000000,) * 4, (999999999, 999999999, 999999999, 3))
+WITH_REST = ((1, 2, 3, 4), (123456789, 234567890, 345678901, 456789012), (999999999, 999999999, 1, 2), (999999999,) * 4,
+             (249999999, 250000000, 250000000, 250000000), (0, 0, 0, 1))
+
+
+def with_sums(c, rests):
+    """A run by hand with grams of its own in every place, and these rests, four for a total."""
+    c.open(120, MILD)
+    c.set(COUNT, 0, 3)
+    for i in range(60):
+        c.set(GRAMS, i, 10**11 + 71 * i)
+        c.set(REST, i, rests[i // 4 % len(rests)][i % 4])
+    c.settle()
+
+
+def totals(c):
+    """Stored totals: each broken in every way, and asked through every call."""
+    def refused(place):
+        for call in (("total", *place), ("total", 1, 1), ("kind", *place, 3), ("balance", *place, 400000), ("report", 20)):
+            c.say(*call, number=16)
+        c.add(EXAMPLE, number=16)
+
+    for rests in (WHOLE_GRAMS, WITH_REST):
+        with_sums(c, rests)
+        c.say("fields")
+        c.say("list")
+        for i, place in enumerate(TOTALS):
+            for way in broken(c.answers.run, place):
+                c.set_total(i, *way)
+                refused(place)
+            # the run is given back as it came, its broken total too
+            if i % 7 == 0:
+                c.say("fields")
+            c.settle()
+            c.say("total", *place, number=0)
+            c.say("balance", *place, 400000, number=0)
+    # far off, and rests that would be right if they wrapped at 2^64 or at 2^32
+    for i, place in enumerate(TOTALS):
+        grams, rest = divmod(c.answers.run.exact_total(*place), 10**9)
+        for way in ((grams + 2**32, rest), (2**63, rest), (MAX, rest), (0, 0), (grams, rest + 2**32), (grams, rest + 2**63), (grams, MAX),
+                    (MAX, MAX), (grams + 1, rest - 10**9 + 2**64), (grams - 5, rest + 5 * 10**9)):
+            c.set_total(i, *way)
+            c.say("total", *place, number=16)
+        c.settle()
+
+
+def kinds_of_totals(c):
+    """Kinds that changed without their total, and totals that are those of other kinds; what is in order though kinds changed."""
+    # each of the four counts
+    with_sums(c, WITH_REST)
+    for i, place in enumerate(PLACES):
+        for field, now in ((GRAMS, c.answers.run.grams[place]), (REST, c.answers.run.rests[place])):
+            for value in (now + 1, now - 1):
+                if 0 <= value < 10**9 or field == GRAMS:
+                    c.set(field, i, value)
+                    c.say("total", *place[:2], number=16)
+            c.set(field, i, now)
+    c.say("total", 1, 1, number=0)
+    # totals exchanged, one as much above as another below, none at all
+    sums = [(c.answers.run.total_grams[place], c.answers.run.total_rests[place]) for place in TOTALS]
+    for i in range(15):
+        other = (i + 1 + i % 5) % 15
+        c.set_total(i, *sums[other])
+        c.set_total(other, *sums[i])
+        c.say("total", 1, 1, number=16)
+        c.settle()
+        c.set(TOTAL, i, sums[i][0] + 1)
+        c.set(TOTAL, other, sums[other][0] - 1)
+        c.say("total", 1, 1, number=16)
+        c.settle()
+    for i in range(15):
+        c.set_total(i, 0, 0)
+    c.say("total", 1, 1, number=16)
+    c.settle()
+    # in order: a gram from one kind to another, the grams of two exchanged, the rests of two
+    for i, (fuel, quantity) in enumerate(TOTALS):
+        run, at = c.answers.run, 4 * i
+        grams, rests = ([part[place] for place in PLACES[at:at + 4]] for part in (run.grams, run.rests))
+        for changes in ({(GRAMS, 0): grams[0] + 1, (GRAMS, 3): grams[3] - 1}, {(GRAMS, 1): grams[2], (GRAMS, 2): grams[1]},
+                        {(REST, 0): rests[3], (REST, 3): rests[0]}):
+            for (field, kind), value in changes.items():
+                c.set(field, at + kind, value)
+            c.say("total", fuel, quantity, number=0)
+            c.say("kind", fuel, quantity, 0, number=0)
+    # and a gram of one in the rests of the others
+    with_sums(c, WHOLE_GRAMS)
+    for at in range(0, 60, 16):
+        c.set(GRAMS, at + 1, c.answers.run.grams[PLACES[at + 1]] - 1)
+        for kind, rest in ((0, 600000000), (2, 399999999), (3, 1)):
+            c.set(REST, at + kind, rest)
+        c.say("total", *PLACES[at][:2], number=0)
+        c.say("list")
+
+
+def totals_of_records(c):
+    """Totals without a record, where nothing but 0 fits, and of records, which leave some at 0; adds that bring the rest of a total to a
+    gram and not that of a kind, and the other way round; totals at their limits."""
+    c.open(120, MILD)
+    for i in range(15):
+        for way in ((1, 0), (0, 1), (0, 10**9), (MAX, 10**9), (0, MAX)):
+            c.set_total(i, *way)
+            c.say("total", *TOTALS[i], number=16)
+        c.set_total(i, 0, 0)
+    for cls in range(1, 8):
+        c.add((cls, 1234, 5678, (31, 28, 41), (37, 64, 91)), number=0)
+    c.say("fields")
+    for i, place in enumerate(TOTALS):
+        for way in broken(c.answers.run, place):
+            c.set_total(i, *way)
+            c.say("total", *place, number=16)
+            c.add(EXAMPLE, number=16)
+        c.settle()
+    c.say("fields")
+    for rests in (WHOLE_GRAMS, WITH_REST, ((0, 0, 0, 999999999),), ((249999999,) * 3 + (250000001,),), ((999999999, 0, 0, 0),)):
+        with_sums(c, rests)
+        for cls in range(1, 8):
+            c.add((cls, 1, 1, (40, 40, 20), (20 + cls, 60, 100)), number=0)
+            c.say("fields")
+        c.say("list")
+    # one billionth below the limit in every sum, and what is beside the largest total there is
+    c.open(10, [-300] * 12)
+    c.set(COUNT, 0, 5000)
+    for grams, rest in ((5 * 10**15 - 1, 999999999), (5 * 10**15, 0)):
+        for i in range(60):
+            c.set(GRAMS, i, grams)
+            c.set(REST, i, rest)
+        c.settle()
+        c.say("fields")
+        c.say("list")
+        c.say("report", 1455)
+        for i, place in enumerate(TOTALS):
+            for way in broken(c.answers.run, place):
+                c.set_total(i, *way)
+                c.say("total", *place, number=16)
+            c.settle()
 
 
 def full_runs(c):
@@ -748,13 +920,13 @@ def anything(c):
 
 
 def cases():
-    """Every line of standard input."""
-    c = Cases()
+    """Every line of standard input, and what each is answered."""
+    c = Cases(Answers())
     for part in (example, grounds, head_limits, record_limits, several_wrong, questions, classes, warm, balances, digits,
                  rounding, below_half, class_3, order, full_runs, any_order, anything,
-                 one_day, no_days, day_order, periods, dated_rounding, any_period):
+                 one_day, no_days, day_order, periods, dated_rounding, any_period, totals, kinds_of_totals, totals_of_records):
         part(c)
-    return c.lines
+    return c
 
 
 def distance(head, records, run):
@@ -764,6 +936,13 @@ def distance(head, records, run):
     for (fuel, quantity), exact in sums.items():
         allowed = Fraction(1, 2) + Fraction(3, 2) * km[fuel] / 10**7
         assert abs(ref.total(run, fuel, quantity)[1] - exact) <= allowed
+
+
+def fields(run):
+    """Every field of a run; grams and rest of each sum, then of each stored total."""
+    sums = [n for place in PLACES for n in (run.grams[place], run.rests[place])]
+    stored = [n for place in TOTALS for n in (run.total_grams[place], run.total_rests[place])]
+    return [run.trip, *run.x.values(), run.count, *run.km.values(), *sums, *stored]
 
 
 class Answers:
@@ -801,6 +980,8 @@ class Answers:
             run.x[ref.X_NAMES[index]] = value
         elif field == KM:
             run.km[ref.FUELS[index]] = value
+        elif field in (TOTAL, TOTAL_REST):
+            (run.total_grams if field == TOTAL else run.total_rests)[TOTALS[index]] = value
         else:
             (run.grams if field == GRAMS else run.rests)[PLACES[index]] = value
         return []
@@ -834,9 +1015,7 @@ class Answers:
         return out
 
     def fields(self):
-        run = self.run
-        sums = [n for place in PLACES for n in (run.grams[place], run.rests[place])]
-        return [run.trip, *run.x.values(), run.count, *run.km.values(), *sums]
+        return fields(self.run)
 
     def line(self, text):
         call, *numbers = text.split(" ")
@@ -858,14 +1037,9 @@ def write(program, stdin, stdout):
                 file.write(data)
 
 
-def write_answered(program, cases):
-    """The same of cases that were answered as they were said."""
+def write_cases(program, cases):
+    """The same of cases."""
     write(program, "".join(line + "\n" for line in cases.lines).encode(), "".join(cases.answered).encode())
-
-
-def write_lines(program, lines, answers):
-    """The same of lines and what they are answered."""
-    write(program, "".join(line + "\n" for line in lines).encode(), "".join(answers.line(line) for line in lines).encode())
 
 
 def same_calendar():
@@ -890,10 +1064,10 @@ def same_calendar():
 
 def main():
     same_calendar()
-    answers = Answers()
-    write_lines("vectors", cases(), answers)
+    c = cases()
+    write_cases("vectors", c)
     # no case of the digits is lost: 6 to 12, and 12 where there is none
-    assert answers.worked == {(n, True) for n in range(6, 13)} | {(12, False)}
+    assert c.answers.worked == {(n, True) for n in range(6, 13)} | {(12, False)}
 
 
 if __name__ == "__main__":

@@ -31,9 +31,9 @@ fn at(area: usize, word: usize) -> usize {
 }
 
 fn write_run(run: &plain::Run, to: &mut [u64]) {
-    let c::Run { trip, x, count, km, grams, rests } = c_run(run);
+    let c::Run { trip, x, count, km, grams, rests, total_grams, total_rests } = c_run(run);
     let mut at = 0;
-    for part in [&[trip][..], &x, &[count], &km, &grams, &rests] {
+    for part in [&[trip][..], &x, &[count], &km, &grams, &rests, &total_grams, &total_rests] {
         to[at..at + part.len()].copy_from_slice(part);
         at += part.len();
     }
@@ -84,10 +84,21 @@ impl Lent {
         }
     }
 
+    /// Some numbers changed by hand; the totals as they were.
     fn with(&self, changes: &[(usize, u64)]) -> Lent {
         let mut lent = self.clone();
         changes.iter().for_each(|&(place, value)| lent.set(place, value));
         lent
+    }
+
+    /// Each total made that of its four kinds, which were changed: nothing is tried but the kinds.
+    fn settled(mut self) -> Lent {
+        for area in 0..16 {
+            self.theirs.runs[area].settle();
+            self.expect(area);
+        }
+        self.ours.clone_from(&self.wanted);
+        self
     }
 }
 
@@ -241,19 +252,29 @@ fn ask_changed(held: &mut Held, r: &mut Random, mut lent: Lent) -> u64 {
     number
 }
 
-/// Every number of areas at and over its limits, and beside what it was.
+/// Every number of areas at and over its limits, and beside what it was; kinds with their total and without.
 fn changed(held: &mut Held, r: &mut Random, base: &Lent, step: usize) {
     for place in (r.place(step)..LENT).step_by(step) {
         let now = base.wanted[place];
-        let most = if place == COMMON { 200 } else { limit(place % WORDS, base.wanted[at(place / WORDS, COUNT)]) };
+        let word = place % WORDS;
+        if place != COMMON && word >= TOTAL_GRAMS {
+            for value in [999_999_999, 1_000_000_000, 1 << 63, u64::MAX, now + 1, now.wrapping_sub(1)] {
+                ask_changed(held, r, base.with(&[(place, value)]));
+            }
+            continue;
+        }
+        let most = if place == COMMON { 200 } else { limit(word, base.wanted[at(place / WORDS, COUNT)]) };
         let far = most + 1 + r.scaled(0, 1 << 40);
         for value in [most, most + 1, far, 1 << 63, u64::MAX, now + 1, now.wrapping_sub(1)] {
-            ask_changed(held, r, base.with(&[(place, value)]));
+            ask_changed(held, r, base.with(&[(place, value)]).settled());
+        }
+        if place != COMMON && word >= GRAMS {
+            ask_changed(held, r, base.with(&[(place, now ^ 1)]));
         }
         // grams at their limit, without a rest and with one
-        if place != COMMON && (GRAMS..RESTS).contains(&(place % WORDS)) {
+        if place != COMMON && (GRAMS..RESTS).contains(&word) {
             for rest in [0, 1, 999_999_999] {
-                ask_changed(held, r, base.with(&[(place, most), (place + 60, rest)]));
+                ask_changed(held, r, base.with(&[(place, most), (place + 60, rest)]).settled());
             }
         }
     }
@@ -343,7 +364,7 @@ fn order_limits(r: &mut Random, base: &Lent) -> Vec<(bool, Vec<(usize, u64)>)> {
     }
     limits.push((true, vec![(at(1, COUNT), u64::MAX), (COMMON, common.wrapping_sub(301))]));
     // kilometres and sums of an area with records, at each place
-    for word in KM..WORDS {
+    for word in KM..TOTAL_GRAMS {
         let area = r.of(&[0, 2, 9, 15]);
         let most = limit(word, count(area));
         let rest = if (GRAMS..RESTS).contains(&word) { vec![(at(area, word + 60), 0)] } else { vec![] };
@@ -362,11 +383,25 @@ fn order_limits(r: &mut Random, base: &Lent) -> Vec<(bool, Vec<(usize, u64)>)> {
         limits.push((true, (0..4).map(|i| (at(9, RESTS + 13 * i), value)).collect()));
     }
     // one number in an area without records
-    for word in KM..WORDS {
+    for word in KM..TOTAL_GRAMS {
         let area = r.of(&[1, 6, 11]);
         assert_eq!(count(area), 0);
         limits.push((false, vec![(at(area, word), 0)]));
         limits.push((true, vec![(at(area, word), 1)]));
+    }
+    limits
+}
+
+/// Each total of each area broken in each way, and as it was.
+fn total_limits(base: &Lent) -> Vec<(bool, Vec<(usize, u64)>)> {
+    let mut limits = Vec::new();
+    for (area, run) in base.theirs.runs.iter().enumerate() {
+        let run = c_run(run);
+        for i in 0..15 {
+            let with = |(grams, rest)| vec![(at(area, TOTAL_GRAMS + i), grams), (at(area, TOTAL_RESTS + i), rest)];
+            limits.push((false, with((run.total_grams[i], run.total_rests[i]))));
+            limits.extend(broken_totals(&run, i).into_iter().map(|way| (true, with(way))));
+        }
     }
     limits
 }
@@ -461,10 +496,14 @@ fn limits(held: &mut Held, r: &mut Random, behind: usize, small: bool) {
     // 16 by what the numbers are, and by how many there are
     let lent = base(r, counts_with(2, 150, 31));
     for (fits, changes) in order_limits(r, &lent).into_iter().step_by(if small { 7 } else { 1 }) {
+        let found = ask_changed(held, r, lent.with(&changes).settled());
+        edge(held, 16, fits, found, 0);
+    }
+    for (fits, changes) in total_limits(&lent).into_iter().step_by(if small { 31 } else { 1 }) {
         let found = ask_changed(held, r, lent.with(&changes));
         edge(held, 16, fits, found, 0);
     }
-    for length in [0, 1, 140, 141, 142, 2255, 2256, 2258, 2259, 2400, 4514, r.place(2257)] {
+    for length in [0, 1, 170, 171, 172, 2257, 2735, 2736, 2738, 2739, 2880, 5474, r.place(LENT)] {
         // what is lent and no more, then with numbers behind it
         for room in [length, length.max(LENT) + 9] {
             let mut numbers: Vec<u64> = (0..room).map(|_| r.next()).collect();

@@ -136,6 +136,7 @@ fn ask_three(held: &mut Held, r: &mut Random, pairs: [(u64, u64); 3]) {
     for (sums, (_, used)) in run.sums.iter_mut().zip(pairs) {
         sums[4] = spread(r, used);
     }
+    run.settle();
     assert!(run.in_order());
     let ours = c_run(&run);
     for (fuel, (sold, used)) in (1..).zip(pairs) {

@@ -20,9 +20,10 @@ pub struct Tried {
     pub exchanged: u64,
     pub shapes: u64,
     pub fresh: u64,
-    /// Pairs of runs made up, pairs with a run out of order, areas joined whole.
+    /// Pairs of runs made up, pairs with a run out of order, those of them by a total alone, areas joined whole.
     pub made: u64,
     pub out_of_order: u64,
+    pub broken_totals: u64,
     pub areas: u64,
     /// Limits met and passed, by number.
     pub limits: [[u64; NUMBERS]; 2],
@@ -30,11 +31,11 @@ pub struct Tried {
 
 impl Tried {
     pub fn text(&self) -> String {
-        let Tried { trees, lists, of_areas, further, held, own_heads, exchanged, shapes, fresh, made, out_of_order, areas, .. } = self;
+        let Tried { trees, lists, of_areas, further, held, own_heads, exchanged, shapes, fresh, made, out_of_order, broken_totals, areas, .. } = self;
         format!(
             "trees of histories: {trees}, with {lists} lists ({of_areas} of areas), {further} adds to joined runs; histories held against exact \
              sums: {held}, {own_heads} of them with cold grams by two heads of other sums\njoins exchanged: {exchanged}, in both shapes: {shapes}, with a fresh run: \
-             {fresh}; pairs made up: {made}; pairs out of order: {out_of_order}; sixteen areas joined: {areas}"
+             {fresh}; pairs made up: {made}; pairs out of order: {out_of_order}, by a total alone: {broken_totals}; sixteen areas joined: {areas}"
         )
     }
 }
@@ -51,10 +52,17 @@ impl Both {
         Both { ours: c_run(&theirs), theirs }
     }
 
-    /// One word changed by hand on both sides.
+    /// Words changed by hand on both sides, none of them a total's: the totals follow their kinds.
     fn with(&self, changes: &[(usize, u64)]) -> Both {
         let mut ours = self.ours;
         changes.iter().for_each(|&(place, value)| *word(&mut ours, place) = value);
+        let ours = settled(ours);
+        Both { ours, theirs: plain_run(&ours) }
+    }
+
+    /// Total i changed by hand on both sides.
+    fn with_total(&self, i: usize, way: (u64, u64)) -> Both {
+        let ours = with_total(&self.ours, i, way);
         Both { ours, theirs: plain_run(&ours) }
     }
 }
@@ -468,7 +476,7 @@ fn sums(held: &mut Held, r: &mut Random) {
     // every sum at its limit: the largest run there is
     for [one, other] in [[2500, 2500], [4999, 1], [3000, 2000]] {
         let [first, second] = pair(r, [one, other]);
-        let changes = |count| (18..WORDS).map(|place| (place, if place < RESTS { limit(place, count) } else { 0 })).collect::<Vec<_>>();
+        let changes = |count| (18..TOTAL_GRAMS).map(|place| (place, if place < RESTS { limit(place, count) } else { 0 })).collect::<Vec<_>>();
         let (number, joined) = join_exchanged(held, &first.with(&changes(one)), &second.with(&changes(other)));
         assert_eq!(number, 0);
         ask_all(held, r, joined.ours, &joined.theirs);
@@ -505,9 +513,22 @@ fn heads(held: &mut Held, r: &mut Random) {
     }
 }
 
-/// Every word of a run beyond its limit, in the first run, in the second, in both: 16, whatever else fits.
+/// A run out of order as the first, as the second, as both: 16, and the first is given back.
+fn ask_refused(held: &mut Held, first: &Both, second: &Both, bad: &Both, what: &dyn Fn() -> String) {
+    held.joins.out_of_order += 1;
+    assert!(!bad.theirs.in_order(), "{}", what());
+    for (one, other) in [(first, bad), (bad, first), (bad, bad), (bad, second), (second, bad)] {
+        let (number, back) = join(held, one, other);
+        edge(held, 16, true, number);
+        if back.ours != one.ours {
+            held.differ(|| format!("a join with a run out of order does not give back the first: {}", what()));
+        }
+    }
+}
+
+/// Every word of a run beyond its limit, and every total broken: 16, whatever else fits.
 fn out_of_order(held: &mut Held, r: &mut Random, step: usize) {
-    for place in (r.place(step)..WORDS).step_by(step) {
+    for place in (r.place(step)..TOTAL_GRAMS).step_by(step) {
         let counts = r.of(&[[3, 4], [3000, 2001], [5000, 5000], [0, 1]]);
         let [first, second] = pair(r, counts);
         // now and then of other heads as well
@@ -519,16 +540,7 @@ fn out_of_order(held: &mut Held, r: &mut Random, step: usize) {
             values.extend([0, 9]);
         }
         for value in values {
-            held.joins.out_of_order += 1;
-            let bad = second.with(&[(place, value)]);
-            assert!(!bad.theirs.in_order(), "word {place} is {value}");
-            for (one, other) in [(&first, &bad), (&bad, &first), (&bad, &bad), (&bad, &second), (&second, &bad)] {
-                let (number, back) = join(held, one, other);
-                edge(held, 16, true, number);
-                if back.ours != one.ours {
-                    held.differ(|| format!("a join with a run out of order does not give back the first: word {place} is {value}"));
-                }
-            }
+            ask_refused(held, &first, &second, &second.with(&[(place, value)]), &|| format!("word {place} is {value}"));
         }
         // at the limit it is in order: grams without a rest, a rest without grams
         let beside = match place {
@@ -537,12 +549,26 @@ fn out_of_order(held: &mut Held, r: &mut Random, step: usize) {
             _ => vec![],
         };
         let edged = second.with(&[vec![(place, most)], beside].concat());
-        let fresh = Both::of(plain::Run { count: 0, km: [0; 3], sums: Default::default(), ..edged.theirs.clone() });
+        let fresh = Both::of(plain::Run { count: 0, km: [0; 3], sums: Default::default(), totals: Default::default(), ..edged.theirs.clone() });
         let (number, _) = join_exchanged(held, &fresh, &edged);
         edge(held, 16, false, number);
         // without records nothing but 0 is
         if place > COUNT {
             let (number, _) = join_exchanged(held, &fresh.with(&[(place, 1)]), &edged);
+            edge(held, 16, true, number);
+        }
+    }
+    for i in (r.place(step.min(15))..15).step_by(step) {
+        let counts = r.of(&[[3, 4], [3000, 2001], [5000, 5000], [0, 1], [1, 0]]);
+        let [first, second] = pair(r, counts);
+        for way in broken_totals(&second.ours, i) {
+            held.joins.broken_totals += 1;
+            ask_refused(held, &first, &second, &second.with_total(i, way), &|| format!("total {i} is {way:?}"));
+        }
+        // broken in both, so that together they would be right
+        let [one, other] = [&first, &second].map(|run| (run.ours.total_grams[i], run.ours.total_rests[i]));
+        if other.0 > 0 {
+            let (number, _) = join_exchanged(held, &first.with_total(i, (one.0 + 1, one.1)), &second.with_total(i, (other.0 - 1, other.1)));
             edge(held, 16, true, number);
         }
     }

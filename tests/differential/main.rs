@@ -39,7 +39,7 @@ fn c_record(r: &plain::Record) -> c::Record {
 }
 
 fn c_run(run: &plain::Run) -> c::Run {
-    let sums = run.sums.as_flattened().as_flattened();
+    let (sums, totals) = (run.sums.as_flattened().as_flattened(), run.totals.as_flattened());
     c::Run {
         trip: run.trip,
         x: [run.x.as_flattened(), &[run.x_class_3]].concat().try_into().unwrap(),
@@ -47,6 +47,8 @@ fn c_run(run: &plain::Run) -> c::Run {
         km: run.km,
         grams: std::array::from_fn(|i| sums[i].grams),
         rests: std::array::from_fn(|i| sums[i].rest),
+        total_grams: std::array::from_fn(|i| totals[i].grams),
+        total_rests: std::array::from_fn(|i| totals[i].rest),
     }
 }
 
@@ -56,15 +58,21 @@ fn plain_run(run: &c::Run) -> plain::Run {
     for (i, sum) in r.sums.as_flattened_mut().as_flattened_mut().iter_mut().enumerate() {
         *sum = plain::Sum { grams: run.grams[i], rest: run.rests[i] };
     }
+    for (i, total) in r.totals.as_flattened_mut().iter_mut().enumerate() {
+        *total = plain::Sum { grams: run.total_grams[i], rest: run.total_rests[i] };
+    }
     r
 }
 
-const WORDS: usize = 141;
-/// Where the grams and the rests begin.
+const WORDS: usize = 171;
+/// Where the grams and the rests begin, and those of the totals.
 const GRAMS: usize = 21;
 const RESTS: usize = 81;
+const TOTAL_GRAMS: usize = 141;
+const TOTAL_RESTS: usize = 156;
 
-/// Word i of a run: 0 trip, 1 to 16 x, 17 count, 18 to 20 km, 21 to 80 grams, 81 to 140 rests.
+/// Word i of a run: 0 trip, 1 to 16 x, 17 count, 18 to 20 km, 21 to 80 grams, 81 to 140 rests, 141 to 155 grams and 156 to 170 rests of
+/// the totals.
 fn word(run: &mut c::Run, i: usize) -> &mut u64 {
     match i {
         0 => &mut run.trip,
@@ -72,11 +80,47 @@ fn word(run: &mut c::Run, i: usize) -> &mut u64 {
         17 => &mut run.count,
         18..=20 => &mut run.km[i - 18],
         GRAMS..RESTS => &mut run.grams[i - GRAMS],
-        _ => &mut run.rests[i - RESTS],
+        RESTS..TOTAL_GRAMS => &mut run.rests[i - RESTS],
+        TOTAL_GRAMS..TOTAL_RESTS => &mut run.total_grams[i - TOTAL_GRAMS],
+        _ => &mut run.total_rests[i - TOTAL_RESTS],
     }
 }
 
-/// The largest value of word i in a run with this count, the other words being 0.
+/// The run with each total made that of its four kinds, which were changed: nothing is tried but the kinds.
+fn settled(run: c::Run) -> c::Run {
+    let mut run = plain_run(&run);
+    run.settle();
+    c_run(&run)
+}
+
+/// Words of total i of a run in order, broken in each way: one gram more and less, one billionth more and less, one gram in the rest, so
+/// that it is not below its limit, the carry of the four rests lost or left in the rest, and what is the same if it wraps at 2^64.
+fn broken_totals(run: &c::Run, i: usize) -> Vec<(u64, u64)> {
+    let (grams, rest) = (run.total_grams[i], run.total_rests[i]);
+    let of = |billionths: u128| ((billionths / 1_000_000_000) as u64, (billionths % 1_000_000_000) as u64);
+    let exact = grams as u128 * 1_000_000_000 + rest as u128;
+    let alone: u64 = run.grams[4 * i..4 * i + 4].iter().sum();
+    let rests: u64 = run.rests[4 * i..4 * i + 4].iter().sum();
+    let mut ways = vec![of(exact + 1_000_000_000), of(exact + 1), (alone, rest), (alone, rests), (grams + (1 << 55), rest)];
+    ways.extend([(grams, rest + 1), (grams + 1, rest.wrapping_sub(1_000_000_000)), (grams, rest + (1 << 32)), (u64::MAX, u64::MAX)]);
+    if exact > 0 {
+        ways.push(of(exact - 1));
+    }
+    if grams > 0 {
+        ways.extend([(grams - 1, rest), (grams - 1, rest + 1_000_000_000)]);
+    }
+    ways.retain(|&way| way != (grams, rest));
+    ways
+}
+
+/// The run with total i of these grams and this rest.
+fn with_total(run: &c::Run, i: usize, (grams, rest): (u64, u64)) -> c::Run {
+    let mut run = *run;
+    (run.total_grams[i], run.total_rests[i]) = (grams, rest);
+    run
+}
+
+/// The largest value of word i in a run with this count, the other words being 0 but for the total.
 fn limit(i: usize, count: u64) -> u64 {
     match i {
         0 => 200,
@@ -84,7 +128,8 @@ fn limit(i: usize, count: u64) -> u64 {
         17 => 5000,
         18..=20 => 1_000_000_000 * count,
         GRAMS..RESTS => 1_000_000_000_000 * count,
-        _ => 999_999_999,
+        RESTS..TOTAL_GRAMS => 999_999_999,
+        _ => unreachable!("a total has no limit but its kinds"),
     }
 }
 
@@ -124,7 +169,9 @@ struct Held {
     tried: [[u64; NUMBERS]; CALLS.len()],
     not_given: u64,
     buffers: u64,
+    /// Runs out of order, and those of them by a total alone.
     out_of_order: u64,
+    broken_totals: u64,
     /// Adds of classes 3 and 2 beside each other, by season.
     seasons: [u64; 3],
     /// Records in lists, and the first refused ones by number.
@@ -362,7 +409,8 @@ fn class_3(held: &mut Held, r: &mut Random, times: u64) {
     }
 }
 
-/// One X of a run changed by hand: whatever the class, an add gives the same run but for that X and the cold sums that go by it.
+/// One X of a run changed by hand: whatever the class, an add gives the same run but for that X and the cold sums that go by it, with
+/// their totals.
 fn one_x(held: &mut Held, r: &mut Random, run: c::Run, place: usize) {
     let mut other = run;
     other.x[place] = r.of(&[0, 1, 1_000_000_000, 4_899_999_999, 4_900_000_000]);
@@ -377,6 +425,7 @@ fn one_x(held: &mut Held, r: &mut Random, run: c::Run, place: usize) {
         for quantity in (0..5).filter(|&quantity| class != 5 && x_place(class, quantity) == place) {
             let sum = plain::fuel_of(class) * 20 + quantity * 4 + plain::COLD;
             (second.grams[sum], second.rests[sum]) = (first.grams[sum], first.rests[sum]);
+            (second.total_grams[sum / 4], second.total_rests[sum / 4]) = (first.total_grams[sum / 4], first.total_rests[sum / 4]);
         }
         if first != second {
             held.differ(|| format!("x[{place}] moves more than it may in an add of class {class}: {record:?} to {run:?}"));
@@ -529,7 +578,7 @@ fn ask_all(held: &mut Held, r: &mut Random, ours: c::Run, run: &plain::Run) {
 
 // ---- Runs out of order
 
-/// A run with one word beyond its limit: 16 from every call, and nothing changed.
+/// A run with a word beyond its limit, or with a total that is not that of its kinds: 16 from every call, and nothing changed.
 fn ask_out_of_order(held: &mut Held, r: &mut Random, bad: c::Run, what: &dyn Fn() -> String) {
     let run = plain_run(&bad);
     assert!(!run.in_order(), "{}", what());
@@ -553,20 +602,20 @@ fn ask_out_of_order(held: &mut Held, r: &mut Random, bad: c::Run, what: &dyn Fn(
 }
 
 fn out_of_order(held: &mut Held, r: &mut Random, run: &c::Run) {
-    for i in 0..WORDS {
+    for i in 0..TOTAL_GRAMS {
         let most = limit(i, run.count);
         let values = [most + 1, most + 1 + r.scaled(0, 1 << 40), 1 << 63, u64::MAX];
         for value in values.iter().chain(if i == 0 { &[0u64, 9][..] } else { &[][..] }) {
             let mut bad = *run;
             *word(&mut bad, i) = *value;
-            ask_out_of_order(held, r, bad, &|| format!("word {i} is {value}"));
+            ask_out_of_order(held, r, settled(bad), &|| format!("word {i} is {value}"));
         }
         // a sum at its limit with a rest, and rests of whole sums below
         if (GRAMS..RESTS).contains(&i) {
             let mut bad = *run;
             *word(&mut bad, i) = most;
             *word(&mut bad, i + 60) = r.of(&[1, 999_999_999]);
-            ask_out_of_order(held, r, bad, &|| format!("word {i} is {most} with a rest"));
+            ask_out_of_order(held, r, settled(bad), &|| format!("word {i} is {most} with a rest"));
         }
         // exactly at the limit: in order, and both sides say so
         let mut edge = *run;
@@ -574,9 +623,17 @@ fn out_of_order(held: &mut Held, r: &mut Random, run: &c::Run) {
         if (GRAMS..RESTS).contains(&i) {
             *word(&mut edge, i + 60) = 0;
         }
+        let edge = settled(edge);
         let edge_run = plain_run(&edge);
         ask_order(held, edge, &edge_run);
         ask_place(held, edge, &edge_run, r.from_to(1, 3), r.from_to(1, 5));
+        // a kind that changed without its total
+        if i >= GRAMS {
+            let mut bad = *run;
+            *word(&mut bad, i) ^= 1;
+            held.broken_totals += 1;
+            ask_out_of_order(held, r, bad, &|| format!("word {i} is another, its total is not"));
+        }
     }
     // fewer records than the sums and kilometres need
     let mut bad = *run;
@@ -585,6 +642,44 @@ fn out_of_order(held: &mut Held, r: &mut Random, run: &c::Run) {
     }
     if !plain_run(&bad).in_order() {
         ask_out_of_order(held, r, bad, &|| "count too small for the sums".into());
+    }
+}
+
+/// Each total of a run broken in each way; the same with its rest at both ends of its range, and with none to three grams in the four
+/// rests.
+fn totals_out_of_order(held: &mut Held, r: &mut Random, run: &c::Run) {
+    let below = (1_000_000_000_000 * run.count).saturating_sub(1);
+    for i in 0..15 {
+        let mut runs = vec![*run];
+        // without a record every sum is 0
+        for rests in [[0; 4], [249_999_999, 250_000_000, 250_000_000, 250_000_000], [250_000_000; 4], [1, 0, 999_999_999, 999_999_999], [999_999_999; 4]] {
+            let mut other = *run;
+            other.grams[4 * i..4 * i + 4].iter_mut().for_each(|grams| *grams = (*grams).min(below));
+            other.rests[4 * i..4 * i + 4].copy_from_slice(&rests);
+            runs.extend((run.count > 0).then(|| settled(other)));
+        }
+        for good in runs {
+            let good_run = plain_run(&good);
+            assert!(good_run.in_order());
+            ask_order(held, good, &good_run);
+            ask_place(held, good, &good_run, i as u64 / 5 + 1, i as u64 % 5 + 1);
+            for way in broken_totals(&good, i) {
+                held.broken_totals += 1;
+                ask_out_of_order(held, r, with_total(&good, i, way), &|| format!("total {i} is {way:?}"));
+            }
+        }
+        // the total of another place, and one as much above as another below
+        let other = (i + 1 + r.place(14)) % 15;
+        let [own, others] = [i, other].map(|i| (run.total_grams[i], run.total_rests[i]));
+        if own != others {
+            held.broken_totals += 1;
+            ask_out_of_order(held, r, with_total(&with_total(run, i, others), other, own), &|| format!("totals {i} and {other} exchanged"));
+        }
+        if others.0 > 0 {
+            held.broken_totals += 1;
+            let bad = with_total(&with_total(run, i, (own.0 + 1, own.1)), other, (others.0 - 1, others.1));
+            ask_out_of_order(held, r, bad, &|| format!("a gram of total {other} in total {i}"));
+        }
     }
 }
 
@@ -686,8 +781,11 @@ fn printed_numbers(held: &mut Held) {
     assert_eq!(theirs.write_report(&mut [0; 388]), Ok(388));
     let mut used = theirs.clone();
     used.sums[0][4] = [plain::Sum { grams: 13_825_400, rest: 0 }, plain::Sum::default(), plain::Sum::default(), plain::Sum::default()];
+    used.settle();
     assert_eq!(used.co2(1, 1800), Ok(44_011_000));
     used.sums[0][4][0].grams = 1_000_000;
+    assert_eq!(used.lead(1, 2), Err(16));
+    used.settle();
     assert_eq!(used.lead(1, 2), Ok(2));
     let sheet = [random::head_line(&head), b" 2   1000  10000  40  40  20  20  60 100\n".to_vec()].concat();
     assert_eq!(plain::sheet_report(&sheet), report);
@@ -718,6 +816,7 @@ fn main() {
         not_given: 0,
         buffers: 0,
         out_of_order: 0,
+        broken_totals: 0,
         seasons: [0; 3],
         listed: 0,
         passed_over: [0; NUMBERS],
@@ -808,6 +907,7 @@ fn main() {
     for _ in 0..if small { 1 } else { 60 } {
         let run = c_run(&random::any_run_in_order(&mut r));
         out_of_order(&mut held, &mut r, &run);
+        totals_out_of_order(&mut held, &mut r, &run);
     }
 
     class_3(&mut held, &mut r, 9_000 / part);
@@ -819,7 +919,8 @@ fn main() {
     periods::periods(&mut held, &mut r, 15_000 / part, small);
     joins::joins(&mut held, &mut r, small);
 
-    println!("runs opened and added to: {runs}, of them full: {full}; runs in order made up: {made}; runs out of order: {}", held.out_of_order);
+    println!("runs opened and added to: {runs}, of them full: {full}; runs in order made up: {made}");
+    println!("runs out of order: {}, of them by a total alone: {}", held.out_of_order, held.broken_totals);
     println!("adds: {}; sheets: {}; buffers compared whole: {}; figures not given: {}", held.of(ADD), held.of(SHEET), held.buffers, held.not_given);
     println!("lists: {}, with {} records", held.of(ADD_LIST), held.listed);
     let [warm, cold, mixed] = held.seasons;

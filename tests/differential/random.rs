@@ -288,6 +288,7 @@ pub fn run_of_count(r: &mut Random, count: u64) -> Run {
     for sum in run.sums.iter_mut().flatten().flatten() {
         *sum = sum_up_to(r, most);
     }
+    run.settle();
     run
 }
 

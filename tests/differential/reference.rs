@@ -1,5 +1,5 @@
 //! The inventory in plain Rust: ordinary structs, u128 and i128 wherever a product might be large. Written from the
-//! customer's request ("COPERT II inventory core", its document 01, and jobs 1 and 3 to 6 of document 02, of which
+//! customer's request ("COPERT II inventory core", its document 01, and jobs 1 and 3 to 7 of document 02, of which
 //! docs/SPECIFICATION.md says the same in our own words); lists of records and the number and line beside a text are from that
 //! page itself. Nothing here comes from the Rattle code. A refusal is its number in the table of refusals. Fuels, quantities
 //! and kinds count from 0 inside arrays and from 1 where a caller hands them in; areas count from 0.
@@ -73,6 +73,8 @@ pub struct Run {
     pub km: [u64; 3],
     /// By fuel, quantity and kind.
     pub sums: [[[Sum; 4]; 5]; 3],
+    /// By fuel and quantity: the four kinds together, kept beside them.
+    pub totals: [[Sum; 5]; 3],
 }
 
 fn half_up(numerator: u128, denominator: u128) -> u128 {
@@ -304,6 +306,22 @@ impl Run {
         self.x.iter().flatten().chain([&self.x_class_3]).all(|&x| x <= 4_900_000_000)
             && self.sums.iter().flatten().flatten().all(|s| (s.rest as u128) < BILLION && s.exact() <= most)
             && self.km.iter().all(|&km| km as u128 <= BILLION * self.count as u128)
+            && self.totals.iter().flatten().all(|total| (total.rest as u128) < BILLION)
+            && (0..3).all(|f| (0..5).all(|q| self.totals[f][q].exact() == self.exact_total(f, q)))
+    }
+
+    /// The four kinds together in billionths of a gram.
+    fn exact_total(&self, f: usize, q: usize) -> u128 {
+        self.sums[f][q].iter().map(|s| s.exact()).sum()
+    }
+
+    /// Each total made that of its four kinds, which were changed.
+    pub fn settle(&mut self) {
+        for f in 0..3 {
+            for q in 0..5 {
+                self.totals[f][q] = Sum::of(self.exact_total(f, q));
+            }
+        }
     }
 
     /// Whether two runs agree in L and every X, which is all that a run keeps of its head.
@@ -350,6 +368,7 @@ impl Run {
                 let factor = half_up(e * x, BILLION);
                 sums[COLD] = Sum::of(sums[COLD].exact() + k * factor * 100);
             }
+            self.totals[fuel][quantity] = Sum::of(self.exact_total(fuel, quantity));
         }
         self.km[fuel] += k as u64;
         self.count += 1;
@@ -371,7 +390,7 @@ impl Run {
     }
 
     fn printed_total(&self, f: usize, q: usize) -> u64 {
-        half_up(self.sums[f][q].iter().map(|s| s.exact()).sum(), BILLION) as u64
+        half_up(self.exact_total(f, q), BILLION) as u64
     }
 
     pub fn kind(&self, fuel: u64, quantity: u64, kind: usize) -> Result<u64, u64> {
@@ -494,6 +513,7 @@ pub fn join(first: &Run, second: &Run) -> Result<Run, u64> {
             }
         }
     }
+    run.settle();
     Ok(run)
 }
 

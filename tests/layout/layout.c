@@ -31,25 +31,26 @@ static void as_documented(void) {
     SIZE(haldurap_speeds, 24), PLACE(haldurap_speeds, urban, 0), PLACE(haldurap_speeds, rural, 8), PLACE(haldurap_speeds, highway, 16);
     SIZE(haldurap_record, 72), PLACE(haldurap_record, vehicle_class, 0), PLACE(haldurap_record, vehicles, 8), PLACE(haldurap_record, km, 16);
     FIELD(haldurap_record, shares, 24, 24), FIELD(haldurap_record, speeds, 48, 24);
-    SIZE(haldurap_run, 1128), PLACE(haldurap_run, trip, 0), FIELD(haldurap_run, x, 8, 128), PLACE(haldurap_run, count, 136);
+    SIZE(haldurap_run, 1368), PLACE(haldurap_run, trip, 0), FIELD(haldurap_run, x, 8, 128), PLACE(haldurap_run, count, 136);
     FIELD(haldurap_run, km, 144, 24), FIELD(haldurap_run, grams, 168, 480), FIELD(haldurap_run, rests, 648, 480);
-    SIZE(haldurap_areas, 18056), FIELD(haldurap_areas, runs, 0, 18048), PLACE(haldurap_areas, common, 18048);
+    FIELD(haldurap_run, total_grams, 1128, 120), FIELD(haldurap_run, total_rests, 1248, 120);
+    SIZE(haldurap_areas, 21896), FIELD(haldurap_areas, runs, 0, 21888), PLACE(haldurap_areas, common, 21888);
     same(sizeof(haldurap_areas), 8 * HALDURAP_AREAS_NUMBERS, "HALDURAP_AREAS_NUMBERS", 0);
-    SIZE(haldurap_run_answer, 1136), PLACE(haldurap_run_answer, number, 0), FIELD(haldurap_run_answer, run, 8, 1128);
+    SIZE(haldurap_run_answer, 1376), PLACE(haldurap_run_answer, number, 0), FIELD(haldurap_run_answer, run, 8, 1368);
     SIZE(haldurap_grams_answer, 16), PLACE(haldurap_grams_answer, number, 0), PLACE(haldurap_grams_answer, grams, 8);
     SIZE(haldurap_balance_answer, 32), PLACE(haldurap_balance_answer, number, 0), PLACE(haldurap_balance_answer, k, 8);
     PLACE(haldurap_balance_answer, digits, 16), PLACE(haldurap_balance_answer, grams, 24);
     SIZE(haldurap_length_answer, 16), PLACE(haldurap_length_answer, number, 0), PLACE(haldurap_length_answer, bytes, 8);
     SIZE(haldurap_text_answer, 32), PLACE(haldurap_text_answer, number, 0), PLACE(haldurap_text_answer, bytes, 8);
     PLACE(haldurap_text_answer, sheet_number, 16), PLACE(haldurap_text_answer, sheet_line, 24);
-    SIZE(haldurap_list_answer, 1160), PLACE(haldurap_list_answer, number, 0), PLACE(haldurap_list_answer, taken, 8);
-    PLACE(haldurap_list_answer, place, 16), PLACE(haldurap_list_answer, refused, 24), FIELD(haldurap_list_answer, run, 32, 1128);
+    SIZE(haldurap_list_answer, 1400), PLACE(haldurap_list_answer, number, 0), PLACE(haldurap_list_answer, taken, 8);
+    PLACE(haldurap_list_answer, place, 16), PLACE(haldurap_list_answer, refused, 24), FIELD(haldurap_list_answer, run, 32, 1368);
     SIZE(haldurap_map_row_answer, 40), PLACE(haldurap_map_row_answer, number, 0), PLACE(haldurap_map_row_answer, urban, 8);
     PLACE(haldurap_map_row_answer, rural, 16), PLACE(haldurap_map_row_answer, highway, 24), PLACE(haldurap_map_row_answer, cold, 32);
     SIZE(haldurap_figure_answer, 24), PLACE(haldurap_figure_answer, number, 0), PLACE(haldurap_figure_answer, given, 8);
     PLACE(haldurap_figure_answer, grams, 16);
-    SIZE(haldurap_sheet_answer, 1144), PLACE(haldurap_sheet_answer, number, 0), PLACE(haldurap_sheet_answer, line, 8);
-    FIELD(haldurap_sheet_answer, run, 16, 1128);
+    SIZE(haldurap_sheet_answer, 1384), PLACE(haldurap_sheet_answer, number, 0), PLACE(haldurap_sheet_answer, line, 8);
+    FIELD(haldurap_sheet_answer, run, 16, 1368);
     SIZE(haldurap_layout_answer, 16), PLACE(haldurap_layout_answer, version, 0), PLACE(haldurap_layout_answer, size, 8);
 }
 
@@ -150,6 +151,47 @@ static void inputs(haldurap_run run) {
     same(haldurap_add(run, r).run.grams[2], 34695000, "highway grams", 0);
 }
 
+enum { RUN_WORDS = 171, TOTALS = 15 };
+
+/* The run with each total made the sum of its four kinds, so that nothing but its other values is tried. */
+static haldurap_run settled(haldurap_run r) {
+    for (int i = 0; i < TOTALS; i++) {
+        uint64_t grams = 0, rests = 0;
+        for (int j = 4 * i; j < 4 * i + 4; j++) grams += r.grams[j], rests += r.rests[j];
+        r.total_grams[i] = grams + rests / 1000000000, r.total_rests[i] = rests % 1000000000;
+    }
+    return r;
+}
+
+/* Each total: it goes with the four kinds of its place and with no other, to the gram and to the billionth, its rest below 10^9. */
+static void totals(haldurap_run fresh) {
+    haldurap_run good, r;
+#define BROKEN(change) \
+        r = good, change, same(haldurap_total(r, (uint64_t)i / 5 + 1, (uint64_t)i % 5 + 1).number, HALDURAP_RUN_ORDER, #change, i)
+    for (int i = 0; i < TOTALS; i++) {
+        for (int j = 0; j < 60; j++) {
+            r = fresh, r.count = 3, r.grams[j] = 7, r.rests[j] = 5, r.total_grams[i] = 7, r.total_rests[i] = 5;
+            haldurap_grams_answer a = haldurap_total(r, (uint64_t)i / 5 + 1, (uint64_t)i % 5 + 1);
+            same(a.number, j / 4 == i ? 0 : HALDURAP_RUN_ORDER, "run.total_grams, run.total_rests", i), same(a.grams, j / 4 == i ? 7 : 0, "total", i);
+        }
+        /* four rests of 300,000,000: a gram and 200,000,000; of 250,000,000: a gram and no rest */
+        good = fresh, good.count = 3;
+        for (int j = 4 * i; j < 4 * i + 4; j++) good.grams[j] = 1000, good.rests[j] = 300000000;
+        good.total_grams[i] = 4001, good.total_rests[i] = 200000000;
+        same(haldurap_in_order(good), 1, "run.total_grams, run.total_rests", i);
+        BROKEN(r.total_grams[i] += 1);
+        BROKEN(r.total_grams[i] -= 1);
+        BROKEN(r.total_rests[i] += 1);
+        BROKEN(r.total_rests[i] -= 1);
+        BROKEN((r.total_grams[i] -= 1, r.total_rests[i] += 1000000000));
+        for (int j = 4 * i; j < 4 * i + 4; j++) good.rests[j] = 250000000;
+        good.total_rests[i] = 0;
+        same(haldurap_in_order(good), 1, "run.total_grams, run.total_rests", i);
+        BROKEN((r.total_grams[i] -= 1, r.total_rests[i] = 1000000000));
+        BROKEN((r.total_grams[i] -= 1, r.total_rests[i] = 999999999));
+    }
+}
+
 /* Each word of a run: its limit tells the field, and its effect tells the place in it. */
 static void runs(haldurap_run fresh) {
     typedef haldurap_grams_answer question(haldurap_run, uint64_t, uint64_t);
@@ -158,8 +200,10 @@ static void runs(haldurap_run fresh) {
     static const int fuel_of[] = {0, 0, 0, 2, 0, 1, 1};
     haldurap_run r;
 #define LIMIT(field, most, i) do { \
-        r = fresh, r.count = 3, r.field = most, same(haldurap_total(r, 1, 1).number, 0, "run." #field " at its limit", i); \
-        r = fresh, r.count = 3, r.field = most + 1, same(haldurap_total(r, 1, 1).number, HALDURAP_RUN_ORDER, "run." #field " over it", i); \
+        r = fresh, r.count = 3, r.field = most; \
+        same(haldurap_total(settled(r), 1, 1).number, 0, "run." #field " at its limit", i); \
+        r = fresh, r.count = 3, r.field = most + 1; \
+        same(haldurap_total(settled(r), 1, 1).number, HALDURAP_RUN_ORDER, "run." #field " over it", i); \
     } while (0)
     LIMIT(trip, 200ull, 0);
     LIMIT(count, 5000ull, 0);
@@ -170,10 +214,11 @@ static void runs(haldurap_run fresh) {
 
     for (int i = 0; i < 60; i++) {
         /* a sum alone in the run is printed at its fuel, quantity and kind, and nowhere else */
-        r = fresh, r.count = 3, r.grams[i] = 1000 + (uint64_t)i, r.rests[i] = 500000000;
+        r = fresh, r.count = 3, r.grams[i] = 1000 + (uint64_t)i, r.rests[i] = 500000000, r = settled(r);
         for (int j = 0; j < 60; j++)
             same(kinds[j % 4](r, j / 20 + 1, j / 4 % 5 + 1).grams, i == j ? 1001 + (uint64_t)i : 0, "run.grams, run.rests", i);
     }
+    totals(fresh);
     for (int i = 0; i < 16; i++) {
         /* X of 1: the cold factor is E, so the cold grams are those of the whole distance at the urban speed, of each class
            and quantity whose X this is; the last is that of CO of class 3 and of nothing else, class 5 has none */
@@ -205,6 +250,11 @@ static void answers(haldurap_run run) {
     same(a.number, 0, "run_answer.number", 0), same(a.run.trip, 120, "run_answer.run.trip", 0), same(a.run.count, 0, "run_answer.run.count", 0);
     for (int i = 0; i < 5; i++) same(a.run.x[i], x[i], "run_answer.run.x", i);
     same(a.run.x[15], 383356800, "run_answer.run.x", 15);
+    static const uint64_t printed[TOTALS] = {27132182, 4195387, 1919776, 0, 962235860};
+    for (int i = 0; i < TOTALS; i++) {
+        same(a.run.total_grams[i], 0, "run_answer.run.total_grams", i), same(a.run.total_rests[i], 0, "run_answer.run.total_rests", i);
+        same(run.total_grams[i], printed[i], "run_answer.run.total_grams", i), same(run.total_rests[i], 0, "run_answer.run.total_rests", i);
+    }
     same(haldurap_add(run, (haldurap_record){0}).number, HALDURAP_CLASS, "run_answer.number", 1);
     haldurap_grams_answer g = haldurap_total(run, 1, 1);
     same(g.number, 0, "grams_answer.number", 0), same(g.grams, 27132182, "grams_answer.grams", 0);
@@ -218,7 +268,7 @@ static void answers(haldurap_run run) {
     same(b.digits, 0, "balance_answer.digits", 1), same(b.grams, 0, "balance_answer.grams", 1);
     /* 1 t over 1.25 t: the seventh digit is the last */
     haldurap_run few = run;
-    memset(few.grams + 16, 0, 4 * sizeof few.grams[0]), memset(few.rests + 16, 0, 4 * sizeof few.rests[0]), few.grams[17] = 1250000;
+    memset(few.grams + 16, 0, 4 * sizeof few.grams[0]), memset(few.rests + 16, 0, 4 * sizeof few.rests[0]), few.grams[17] = 1250000, few = settled(few);
     b = haldurap_balance(few, 1, 1, 1);
     same(b.number, 0, "balance_answer.number", 2), same(b.k, 800000, "balance_answer.k", 2);
     same(b.digits, 7, "balance_answer.digits", 2), same(b.grams, 21705746, "balance_answer.grams", 2);
@@ -314,7 +364,7 @@ static void lists(haldurap_run run) {
 /* In order, and each word out of it. */
 static void orders(haldurap_run run) {
     same(haldurap_in_order(run), 1, "in_order", 0), same(haldurap_in_order(haldurap_open(head).run), 1, "in_order", 1);
-    for (int i = 0; i < 141; i++) {
+    for (int i = 0; i < RUN_WORDS; i++) {
         haldurap_run bad = run;
         ((uint64_t *)&bad)[i] |= 1ull << 63;
         same(haldurap_in_order(bad), 0, "in_order of a damaged word", i);
@@ -338,6 +388,7 @@ static void joins(haldurap_run fresh, haldurap_run run) {
         first.grams[i] = 1000 + n, second.grams[i] = 50000 + 7 * n, both.grams[i] = 51000 + 8 * n + more;
         first.rests[i] = 600000000 + n, second.rests[i] = 100000000 + more * 300000000, both.rests[i] = 700000000 + n - more * 700000000;
     }
+    first = settled(first), second = settled(second), both = settled(both);
     joined(first, second, 0, both, "join", 0), joined(second, first, 0, both, "join", 1);
     joined(first, fresh, 0, first, "join with a fresh run", 0), joined(fresh, first, 0, first, "join with a fresh run", 1);
     joined(fresh, fresh, 0, fresh, "join of fresh runs", 0);
@@ -350,7 +401,7 @@ static void joins(haldurap_run fresh, haldurap_run run) {
         joined(bad, first, HALDURAP_HEADS_DIFFER, bad, "join of other heads", i);
     }
     /* each word out of its range, in either run: before the others */
-    for (int i = 0; i < 141; i++) {
+    for (int i = 0; i < RUN_WORDS; i++) {
         bad = second, bad.count = 4998, bad.x[15] += 1, ((uint64_t *)&bad)[i] |= 1ull << 63;
         joined(first, bad, HALDURAP_RUN_ORDER, first, "join with a damaged word", i);
         joined(bad, first, HALDURAP_RUN_ORDER, bad, "join with a damaged word", i);
@@ -420,9 +471,9 @@ static void areas(haldurap_run fresh) {
     tried(16, 16, 0, "areas of zeros", 0);
     tried(16, 16, 16, "areas of zeros", 1);
     /* another length, 16 before all else, and every number stays */
-    static const size_t lengths[] = {0, 1, 141, 2256, 2258, 4514};
+    static const size_t lengths[] = {0, 1, 171, 2257, 2736, 2738, 5474};
     lent.areas = opened();
-    for (int i = 0; i < 6; i++) {
+    for (int i = 0; i < 7; i++) {
         before = lent;
         same(haldurap_open_areas(&lent.areas, lengths[i], head), HALDURAP_RUN_ORDER, "length in open_areas", i);
         same(haldurap_open_areas(&lent.areas, lengths[i], wrong), HALDURAP_RUN_ORDER, "length in open_areas", i);
@@ -480,12 +531,19 @@ static void areas(haldurap_run fresh) {
         haldurap_run *r = &lent.areas.runs[i];
         /* each limit of a run, in each area: the last good value is taken, the next is not */
 #define AREA_LIMIT(field, most) do { \
-            lent.areas = good, *r = fresh, r->count = 3, r->field = most, tried(0, 0, other, "areas." #field " at its limit", i); \
-            lent.areas = good, *r = fresh, r->count = 3, r->field = most + 1, tried(16, 16, other, "areas." #field " over it", i); \
+            lent.areas = good, *r = fresh, r->count = 3, r->field = most, *r = settled(*r); \
+            tried(0, 0, other, "areas." #field " at its limit", i); \
+            lent.areas = good, *r = fresh, r->count = 3, r->field = most + 1, *r = settled(*r); \
+            tried(16, 16, other, "areas." #field " over it", i); \
         } while (0)
         for (int j = 0; j < 3; j++) AREA_LIMIT(km[j], 3000000000ull);
         for (int j = 0; j < 60; j++) AREA_LIMIT(grams[j], 3000000000000ull);
         for (int j = 0; j < 60; j++) AREA_LIMIT(rests[j], 999999999ull);
+        /* each total off by one gram and by one billionth */
+        for (int j = 0; j < TOTALS; j++) {
+            lent.areas = good, r->total_grams[j] ^= 1, tried(16, 16, other, "areas.total_grams", j);
+            lent.areas = good, r->total_rests[j] ^= 1, tried(16, 16, other, "areas.total_rests", j);
+        }
         /* L and each X, good by themselves, but another head's */
         lent.areas = good, r->trip = 121, tried(16, 16, other, "areas.trip of another head", i);
         for (int j = 0; j < 16; j++) {

@@ -27,17 +27,17 @@ DOCUMENTED = {
     h.Shares: (24, {"urban": 0, "rural": 8, "highway": 16}),
     h.Speeds: (24, {"urban": 0, "rural": 8, "highway": 16}),
     h.Record: (72, {"vehicle_class": 0, "vehicles": 8, "km": 16, "shares": 24, "speeds": 48}),
-    h.Run: (1128, {"trip": 0, "x": 8, "count": 136, "km": 144, "grams": 168, "rests": 648}),
-    h.Areas: (18056, {"runs": 0, "common": 18048}),
-    h.RunAnswer: (1136, {"number": 0, "run": 8}),
+    h.Run: (1368, {"trip": 0, "x": 8, "count": 136, "km": 144, "grams": 168, "rests": 648, "total_grams": 1128, "total_rests": 1248}),
+    h.Areas: (21896, {"runs": 0, "common": 21888}),
+    h.RunAnswer: (1376, {"number": 0, "run": 8}),
     h.GramsAnswer: (16, {"number": 0, "grams": 8}),
     h.BalanceAnswer: (32, {"number": 0, "k": 8, "digits": 16, "grams": 24}),
     h.LengthAnswer: (16, {"number": 0, "bytes": 8}),
     h.TextAnswer: (32, {"number": 0, "bytes": 8, "sheet_number": 16, "sheet_line": 24}),
-    h.ListAnswer: (1160, {"number": 0, "taken": 8, "place": 16, "refused": 24, "run": 32}),
+    h.ListAnswer: (1400, {"number": 0, "taken": 8, "place": 16, "refused": 24, "run": 32}),
     h.MapRowAnswer: (40, {"number": 0, "urban": 8, "rural": 16, "highway": 24, "cold": 32}),
     h.FigureAnswer: (24, {"number": 0, "given": 8, "grams": 16}),
-    h.SheetAnswer: (1144, {"number": 0, "line": 8, "run": 16}),
+    h.SheetAnswer: (1384, {"number": 0, "line": 8, "run": 16}),
     h.LayoutAnswer: (16, {"version": 0, "size": 8}),
 }
 
@@ -66,6 +66,15 @@ def changed(run, **fields):
             getattr(run, name)[value[0]] = value[1]
         else:
             setattr(run, name, value)
+    return run
+
+
+def settled(run):
+    """A copy of a run with each total made the sum of its four kinds, so that nothing but its other values is tried."""
+    run = h.Run.from_buffer_copy(run)
+    for i in range(15):
+        carry, run.total_rests[i] = divmod(sum(run.rests[4 * i:4 * i + 4]), 10**9)
+        run.total_grams[i] = sum(run.grams[4 * i:4 * i + 4]) + carry
     return run
 
 
@@ -116,7 +125,7 @@ def runs(fresh):
     def limit(name, most, places=None):
         for i in range(places or 1):
             for value, number in ((most, 0), (most + 1, 16)):
-                run = changed(fresh, **{name: (i, value) if places else value})
+                run = settled(changed(fresh, **{name: (i, value) if places else value}))
                 same(total(run, 1, 1).number, number, "Run.%s" % name)
 
     limit("trip", 200)
@@ -128,9 +137,23 @@ def runs(fresh):
     kinds = [h._call(kind) for kind in ("urban", "rural", "highway", "cold")]
     for i in range(60):
         # a sum alone in the run is printed at its fuel, quantity and kind, and nowhere else
-        run = changed(fresh, grams=(i, 1000 + i), rests=(i, 500000000))
+        run = settled(changed(fresh, grams=(i, 1000 + i), rests=(i, 500000000)))
         printed = [kinds[j % 4](run, j // 20 + 1, j // 4 % 5 + 1).grams for j in range(60)]
         same(printed, [1001 + i if i == j else 0 for j in range(60)], "Run.grams, Run.rests")
+    for i in range(15):
+        # a total goes with the four kinds of its place and with no other, to the gram and to the billionth, its rest below 10^9
+        place = i // 5 + 1, i % 5 + 1
+        for j in range(60):
+            run = changed(fresh, grams=(j, 7), rests=(j, 5), total_grams=(i, 7), total_rests=(i, 5))
+            same(fields(total(run, *place)), (0, 7) if j // 4 == i else (16, 0), "Run.total_grams, Run.total_rests")
+        for rest, total_rest in ((300000000, 200000000), (250000000, 0)):
+            good = changed(fresh, total_grams=(i, 4001), total_rests=(i, total_rest))
+            good.grams[4 * i:4 * i + 4], good.rests[4 * i:4 * i + 4] = [1000] * 4, [rest] * 4
+            same((h.in_order(good), total(good, *place).number), (True, 0), "Run.total_grams, Run.total_rests")
+            for grams, rest_of in ((4002, total_rest), (4000, total_rest), (4001, total_rest + 1), (4000, total_rest + 10**9 - 1),
+                                   (4000, total_rest + 10**9), (4001, (total_rest - 1) % 2**64)):
+                bad = changed(good, total_grams=(i, grams), total_rests=(i, rest_of))
+                same((h.in_order(bad), total(bad, *place).number), (False, 16), "a total that is broken")
     fuels = {1: 0, 2: 0, 3: 0, 4: 2, 5: 0, 6: 1, 7: 1}
     for i in range(16):
         # X of 1: the cold factor is E, so the cold grams are those of the whole distance at the urban speed, of each class and
@@ -159,6 +182,8 @@ def answers(run):
     a = h._call("open")(head())
     same((a.number, a.run.trip, a.run.count, a.run.x[:5]), (0, 120, 0, [532440000, 23664000, 354960000, 0, 112404000]), "RunAnswer")
     same(a.run.x[15], 383356800, "RunAnswer")
+    same((a.run.total_grams[:], a.run.total_rests[:]), ([0] * 15, [0] * 15), "RunAnswer")
+    same((run.total_grams[:], run.total_rests[:]), ([27132182, 4195387, 1919776, 0, 962235860] + [0] * 10, [0] * 15), "RunAnswer")
     same(fields(h._call("total")(run, 1, 1)), (0, 27132182), "GramsAnswer")
     same(fields(h._call("total")(run, 4, 1)), (11, 0), "GramsAnswer")
     same(fields(h._call("balance")(run, 1, 1, 1000)), (0, 1039246, 12, 28197012), "BalanceAnswer")
@@ -166,7 +191,7 @@ def answers(run):
     few = h.Run.from_buffer_copy(run)
     few.grams[16:20], few.rests[16:20] = [0, 1250000, 0, 0], [0] * 4
     # 1 t over 1.25 t: the seventh digit is the last
-    same(fields(h._call("balance")(few, 1, 1, 1)), (0, 800000, 7, 21705746), "BalanceAnswer")
+    same(fields(h._call("balance")(settled(few), 1, 1, 1)), (0, 800000, 7, 21705746), "BalanceAnswer")
     buffer = (c_uint8 * 400)()
     same(fields(h._call("report")(run, buffer, 400)), (0, 388), "LengthAnswer")
     same(fields(h._call("report")(run, buffer, 387)), (14, 0), "LengthAnswer")
@@ -181,7 +206,7 @@ def answers(run):
     a = h._call("sheet")(h._bytes("text", text)[0], 107)
     same((a.number, a.line, bytes(a.run)), (0, 0, bytes(run)), "SheetAnswer")
     a = h._call("sheet")(*h._bytes("text", text))
-    same((a.number, a.line, bytes(a.run)), (3, 3, bytes(1128)), "SheetAnswer")
+    same((a.number, a.line, bytes(a.run)), (3, 3, bytes(1368)), "SheetAnswer")
     same(h.report_sheet(text), (b"REFUSED  3     3\n", 3, 3), "report_sheet")
     for length, room, wanted in ((107, 388, (0, 388, 0, 0)), (107, 387, (14, 0, 0, 0)), (148, 17, (0, 17, 3, 3)), (148, 16, (14, 0, 3, 3)),
                                  (0, 17, (0, 17, 10, 1)), (66, 0, (0, 0, 0, 0))):
@@ -200,9 +225,9 @@ def lists(fresh, run):
     same(added([]), (0, 0, 0, 0, bytes(fresh)), "ListAnswer")
     for length in range(1, 9):
         for a_head in (head(), h.head(9, [100] * 12)):
-            same(added(numbers[:length], a_head), (10, 0, 0, 0, bytes(1128)), "ListAnswer")
-    same(added(numbers, h.head(9, [100] * 12)), (1, 0, 0, 0, bytes(1128)), "ListAnswer")
-    same(added(numbers, h.head(120, [401] * 12)), (2, 0, 0, 0, bytes(1128)), "ListAnswer")
+            same(added(numbers[:length], a_head), (10, 0, 0, 0, bytes(1368)), "ListAnswer")
+    same(added(numbers, h.head(9, [100] * 12)), (1, 0, 0, 0, bytes(1368)), "ListAnswer")
+    same(added(numbers, h.head(120, [401] * 12)), (2, 0, 0, 0, bytes(1368)), "ListAnswer")
     four = h._call("add_list")(head(), (c_uint64 * 36)(*numbers * 4), 36).run
     for i, why in enumerate((3, 4, 5, 7, 7, 7, 8, 8, 8)):
         # a number beyond its limit, in each of the nine places of the third record
@@ -214,7 +239,7 @@ def lists(fresh, run):
 def orders(fresh, run):
     """In order, and each word out of it."""
     same((h.in_order(fresh), h.in_order(run), h.in_order(h.Run())), (True, True, False), "in_order")
-    for i in range(141):
+    for i in range(171):
         data = bytearray(run)
         data[8 * i + 7] |= 128
         same(h._call("in_order")(h.Run.from_buffer_copy(data)), 0, "in_order of a damaged word")
@@ -229,7 +254,7 @@ def joins(fresh, run):
         same((a.number, bytes(a.run)), (number, bytes(wanted)), what)
 
     def with_word(run, i, change):
-        words = (c_uint64 * 141).from_buffer_copy(run)
+        words = (c_uint64 * 171).from_buffer_copy(run)
         words[i] = change(words[i])
         return h.Run.from_buffer_copy(words)
 
@@ -241,6 +266,7 @@ def joins(fresh, run):
         more = i % 2
         first.grams[i], second.grams[i], both.grams[i] = 1000 + i, 50000 + 7 * i, 51000 + 8 * i + more
         first.rests[i], second.rests[i], both.rests[i] = 600000000 + i, 100000000 + more * 300000000, 700000000 + i - more * 700000000
+    first, second, both = settled(first), settled(second), settled(both)
     joined(first, second, 0, both, "join")
     joined(second, first, 0, both, "join")
     for one in (first, second, both, fresh):
@@ -252,7 +278,7 @@ def joins(fresh, run):
         other = with_word(second, i, lambda n: n + 1)
         joined(first, other, 21, first, "join of other heads")
         joined(other, first, 21, other, "join of other heads")
-    for i in range(141):
+    for i in range(171):
         # each word out of its range, in either run: before the others
         bad = with_word(changed(second, count=4998, x=(15, second.x[15] + 1)), i, lambda n: n | 2**63)
         joined(first, bad, 16, first, "join with a damaged word")
@@ -276,7 +302,7 @@ def tried(lent, area, adding, asking, what):
     """Adding to an area and asking for its run give these numbers; a refused add leaves every number, a refused run is zeros."""
     before = bytes(lent)
     a = h._call("area_run")(lent, h.AREAS_NUMBERS, area)
-    run = bytes(1128) if asking else before[1128 * area:1128 * area + 1128]
+    run = bytes(1368) if asking else before[1368 * area:1368 * area + 1368]
     same((a.number, bytes(a.run) == run, bytes(lent) == before), (asking, True, True), what)
     lent = h.Areas.from_buffer_copy(before)
     same((h._call("add_area")(lent, h.AREAS_NUMBERS, area, record()), bytes(lent) == before), (adding, adding != 0), what)
@@ -288,29 +314,29 @@ def areas(fresh):
     cold, opened = h.head(9, [100] * 12), bytes(fresh) * 16 + bytes(8)
     for area in (0, 16):
         tried(h.Areas(), area, 16, 16, "areas of zeros")
-    for a_head, number, wanted in ((head(), 0, opened), (cold, 1, bytes(18056)), (h.head(120, [401] * 12, 1), 2, bytes(18056)),
-                                   (h.head(120, [100] * 12, 20260516, 20260500), 19, bytes(18056)),
-                                   (h.head(120, [100] * 12, 20260516, 20260515), 20, bytes(18056))):
+    for a_head, number, wanted in ((head(), 0, opened), (cold, 1, bytes(21896)), (h.head(120, [401] * 12, 1), 2, bytes(21896)),
+                                   (h.head(120, [100] * 12, 20260516, 20260500), 19, bytes(21896)),
+                                   (h.head(120, [100] * 12, 20260516, 20260515), 20, bytes(21896))):
         # opened over ones, with more behind: every number of the areas is written, and no other
         lent = (c_uint64 * (2 * size))(*[2**64 - 1] * (2 * size))
         same(open_areas(ctypes.cast(lent, h._AREAS), size, a_head), number, "open_areas")
-        same(bytes(lent) == wanted + b"\xff" * 18056, True, "areas after open_areas")
+        same(bytes(lent) == wanted + b"\xff" * 21896, True, "areas after open_areas")
     # another length, 16 before all else, and every number stays
     lent = (c_uint64 * (2 * size)).from_buffer_copy(opened * 2)
     place = ctypes.cast(lent, h._AREAS)
-    for length in (0, 1, 141, size - 1, size + 1, 2 * size):
+    for length in (0, 1, 171, 2257, size - 1, size + 1, 2 * size):
         same([open_areas(place, length, head()), open_areas(place, length, cold)], [16, 16], "another length")
         same([add_area(place, length, 3, record()), add_area(place, length, 16, record(vehicle_class=0))], [16, 16], "another length")
         for area in (3, 16):
             a = area_run(place, length, area)
-            same((a.number, bytes(a.run)), (16, bytes(1128)), "another length")
+            same((a.number, bytes(a.run)), (16, bytes(1368)), "another length")
         same(bytes(lent) == opened * 2, True, "areas of another length")
     # no such area, before the record's own numbers; no cut to the lower half of a word
     good = h.Areas.from_buffer_copy(opened)
     for area in (16, 17, 2**32, 2**32 + 3, 2**64 - 1):
         same([add_area(good, size, area, record()), add_area(good, size, area, record(vehicle_class=0))], [17, 17], "no such area")
         a = area_run(good, size, area)
-        same((a.number, bytes(a.run), bytes(good) == opened), (17, bytes(1128), True), "no such area")
+        same((a.number, bytes(a.run), bytes(good) == opened), (17, bytes(1368), True), "no such area")
     # a record of its own in each area: its run is that of the single add, and nothing else changes
     wanted = h.Areas.from_buffer_copy(opened)
     for i in range(16):
@@ -319,7 +345,7 @@ def areas(fresh):
         same((add_area(good, size, i, own), bytes(good) == bytes(wanted)), (0, True), "add_area")
     for i in range(16):
         a = area_run(good, size, i)
-        same((a.number, bytes(a.run)), (0, bytes(good)[1128 * i:1128 * i + 1128]), "area_run")
+        same((a.number, bytes(a.run)), (0, bytes(good)[1368 * i:1368 * i + 1368]), "area_run")
     # joined one after the other: a run with the sixteen records
     joined = single = fresh
     for i in range(16):
@@ -327,7 +353,7 @@ def areas(fresh):
         a = h._call("join")(joined, area_run(good, size, i).run)
         same((a.number, bytes(a.run)), (0, bytes(single)), "join of areas")
         joined = a.run
-    same((good.common, bytes(good.runs)), (0, bytes(good)[:18048]), "Areas")
+    same((good.common, bytes(good.runs)), (0, bytes(good)[:21888]), "Areas")
     # each field of a record is refused with its own number, as in the single add
     for i, why in enumerate((3, 4, 5, 7, 7, 7, 8, 8, 8)):
         numbers, lent = record().numbers(), h.Areas.from_buffer_copy(good)
@@ -346,8 +372,14 @@ def areas(fresh):
             for j in range(places):
                 for value, number in ((most, 0), (most + 1, 16)):
                     lent = h.Areas.from_buffer_copy(good)
-                    lent.runs[i] = changed(fresh, count=3, **{name: (j, value)})
+                    lent.runs[i] = settled(changed(fresh, count=3, **{name: (j, value)}))
                     tried(lent, other, number, number, "Areas.runs.%s at its limit and over it" % name)
+        for name in ("total_grams", "total_rests"):
+            # each total off by one gram and by one billionth
+            for j in range(15):
+                lent = h.Areas.from_buffer_copy(good)
+                getattr(lent.runs[i], name)[j] ^= 1
+                tried(lent, other, 16, 16, "Areas.runs.%s" % name)
         for name, most, places in (("trip", 200, [None]), ("x", 4900000000, range(16))):
             # L and each X, good by themselves, but another head's; the same in all, up to their limits
             for j in places:
@@ -377,7 +409,7 @@ def areas(fresh):
 
 def days():
     """The days of a head, in each call that takes one and in a sheet."""
-    temps, high, zeros = [-50, -20, 10, 60, 110, 150, 180, 175, 130, 80, 30, -10], 1 << 32, bytes(1128)
+    temps, high, zeros = [-50, -20, 10, 60, 110, 150, 180, 175, 130, 80, 30, -10], 1 << 32, bytes(1368)
     for first, last, number in ((20260515, 20261020, 0), (20260515, 20260515, 0), (20261020, 20260515, 20), (20260515, 20270515, 20),
                                 (20260515, 0, 19), (0, 20260515, 19), (high + 20260515, 20261020, 19), (20260515, high + 20261020, 19),
                                 (2**64 - 1, 2**64 - 1, 19), (0, 0, 0)):

@@ -29,7 +29,8 @@ const RECORD: Record = Record {
     speeds: Speeds { urban: 20, rural: 60, highway: 100 },
 };
 
-const ZEROS: Run = Run { trip: 0, x: [0; 16], count: 0, km: [0; 3], grams: [0; 60], rests: [0; 60] };
+const ZEROS: Run = Areas::zeros().runs[0];
+const RUN_WORDS: usize = 171;
 
 macro_rules! struct_is {
     ($c:ident, $type:ident, $size:expr, $($field:ident $offset:expr),*) => {
@@ -50,18 +51,18 @@ fn as_documented(c: &mut Check) {
     struct_is!(c, Shares, 24, urban 0, rural 8, highway 16);
     struct_is!(c, Speeds, 24, urban 0, rural 8, highway 16);
     struct_is!(c, Record, 72, class 0, vehicles 8, km 16, shares 24, speeds 48);
-    struct_is!(c, Run, 1128, trip 0, x 8, count 136, km 144, grams 168, rests 648);
-    struct_is!(c, Areas, 18056, runs 0, common 18048);
+    struct_is!(c, Run, 1368, trip 0, x 8, count 136, km 144, grams 168, rests 648, total_grams 1128, total_rests 1248);
+    struct_is!(c, Areas, 21896, runs 0, common 21888);
     c.same(size_of::<Areas>(), 8 * AREAS_NUMBERS, "AREAS_NUMBERS");
-    struct_is!(c, RunAnswer, 1136, number 0, run 8);
+    struct_is!(c, RunAnswer, 1376, number 0, run 8);
     struct_is!(c, GramsAnswer, 16, number 0, grams 8);
     struct_is!(c, BalanceAnswer, 32, number 0, k 8, digits 16, grams 24);
     struct_is!(c, LengthAnswer, 16, number 0, bytes 8);
     struct_is!(c, TextAnswer, 32, number 0, bytes 8, sheet_number 16, sheet_line 24);
-    struct_is!(c, ListAnswer, 1160, number 0, taken 8, place 16, refused 24, run 32);
+    struct_is!(c, ListAnswer, 1400, number 0, taken 8, place 16, refused 24, run 32);
     struct_is!(c, MapRowAnswer, 40, number 0, urban 8, rural 16, highway 24, cold 32);
     struct_is!(c, FigureAnswer, 24, number 0, given 8, grams 16);
-    struct_is!(c, SheetAnswer, 1144, number 0, line 8, run 16);
+    struct_is!(c, SheetAnswer, 1384, number 0, line 8, run 16);
     struct_is!(c, LayoutAnswer, 16, version 0, size 8);
 }
 
@@ -164,6 +165,45 @@ fn inputs(c: &mut Check, run: Run) {
     }
 }
 
+/// The run with each total made the sum of its four kinds, so that nothing but its other values is tried.
+fn settled(mut run: Run) -> Run {
+    for i in 0..15 {
+        let rests: u64 = run.rests[4 * i..4 * i + 4].iter().sum();
+        run.total_grams[i] = run.grams[4 * i..4 * i + 4].iter().sum::<u64>() + rests / 1_000_000_000;
+        run.total_rests[i] = rests % 1_000_000_000;
+    }
+    run
+}
+
+/// Each total: it goes with the four kinds of its place and with no other, to the gram and to the billionth, its rest below 10^9.
+fn totals(c: &mut Check, fresh: Run) {
+    for i in 0..15 {
+        let (fuel, quantity) = (i as u64 / 5 + 1, i as u64 % 5 + 1);
+        for j in 0..60 {
+            let mut run = fresh;
+            (run.grams[j], run.rests[j], run.total_grams[i], run.total_rests[i]) = (7, 5, 7, 5);
+            let wanted = if j / 4 == i { GramsAnswer { number: 0, grams: 7 } } else { GramsAnswer { number: RUN_ORDER, grams: 0 } };
+            c.same(haldurap_total(run, fuel, quantity), wanted, "Run.total_grams, Run.total_rests");
+        }
+        // four rests of 300,000,000: a gram and 200,000,000; of 250,000,000: a gram and no rest
+        for (rest, total_rest) in [(300_000_000, 200_000_000), (250_000_000, 0)] {
+            let mut good = fresh;
+            good.grams[4 * i..4 * i + 4].fill(1000);
+            good.rests[4 * i..4 * i + 4].fill(rest);
+            (good.total_grams[i], good.total_rests[i]) = (4001, total_rest);
+            c.same((in_order(good), haldurap_total(good, fuel, quantity).number), (true, 0), "Run.total_grams, Run.total_rests");
+            for (grams, rest) in [
+                (4002, total_rest), (4000, total_rest), (4001, total_rest + 1), (4000, total_rest + 999_999_999), (4000, total_rest + 1_000_000_000),
+                (4001, total_rest.wrapping_sub(1)),
+            ] {
+                let mut bad = good;
+                (bad.total_grams[i], bad.total_rests[i]) = (grams, rest);
+                c.same((in_order(bad), haldurap_total(bad, fuel, quantity).number), (false, RUN_ORDER), "a total that is broken");
+            }
+        }
+    }
+}
+
 /// Each word of a run: its limit tells the field, and its effect tells the place in it.
 fn runs(c: &mut Check, fresh: Run) {
     let kinds: [Question<GramsAnswer>; 4] = [haldurap_urban, haldurap_rural, haldurap_highway, haldurap_cold];
@@ -171,9 +211,9 @@ fn runs(c: &mut Check, fresh: Run) {
     let mut limit = |what: &str, most: u64, field: &dyn Fn(&mut Run) -> &mut u64| {
         let mut run = fresh;
         *field(&mut run) = most;
-        c.same(haldurap_total(run, 1, 1).number, 0, what);
+        c.same(haldurap_total(settled(run), 1, 1).number, 0, what);
         *field(&mut run) = most + 1;
-        c.same(haldurap_total(run, 1, 1).number, 16, what);
+        c.same(haldurap_total(settled(run), 1, 1).number, 16, what);
     };
     limit("Run.trip", 200, &|r| &mut r.trip);
     limit("Run.count", 5000, &|r| &mut r.count);
@@ -182,12 +222,13 @@ fn runs(c: &mut Check, fresh: Run) {
     (0..60).for_each(|i| limit("Run.grams", 3_000_000_000_000, &|r| &mut r.grams[i]));
     (0..60).for_each(|i| limit("Run.rests", 999_999_999, &|r| &mut r.rests[i]));
 
+    totals(c, fresh);
     for i in 0..60u64 {
         // a sum alone in the run is printed at its fuel, quantity and kind, and nowhere else
         let mut run = fresh;
         (run.grams[i as usize], run.rests[i as usize]) = (1000 + i, 500_000_000);
         for j in 0..60 {
-            let printed = kinds[j as usize % 4](run, j / 20 + 1, j / 4 % 5 + 1).grams;
+            let printed = kinds[j as usize % 4](settled(run), j / 20 + 1, j / 4 % 5 + 1).grams;
             c.same(printed, if i == j { 1001 + i } else { 0 }, "Run.grams, Run.rests");
         }
     }
@@ -220,6 +261,10 @@ fn answers(c: &mut Check, run: Run) {
     let x: [u64; 5] = a.run.x[..5].try_into().unwrap();
     c.same((a.number, a.run.trip, a.run.count, x), (0, 120, 0, [532_440_000, 23_664_000, 354_960_000, 0, 112_404_000]), "RunAnswer");
     c.same(a.run.x[15], 383_356_800, "RunAnswer");
+    c.same((a.run.total_grams, a.run.total_rests), ([0; 15], [0; 15]), "RunAnswer");
+    let mut totals = [0; 15];
+    totals[..5].copy_from_slice(&[27_132_182, 4_195_387, 1_919_776, 0, 962_235_860]);
+    c.same((run.total_grams, run.total_rests), (totals, [0; 15]), "RunAnswer");
     c.same(haldurap_total(run, 1, 1), GramsAnswer { number: 0, grams: 27_132_182 }, "GramsAnswer");
     c.same(haldurap_total(run, 4, 1), GramsAnswer { number: 11, grams: 0 }, "GramsAnswer");
     c.same(haldurap_balance(run, 1, 1, 1000), BalanceAnswer { number: 0, k: 1_039_246, digits: 12, grams: 28_197_012 }, "BalanceAnswer");
@@ -228,7 +273,7 @@ fn answers(c: &mut Check, run: Run) {
     let mut few = run;
     few.grams[16..20].copy_from_slice(&[0, 1_250_000, 0, 0]);
     few.rests[16..20].fill(0);
-    c.same(haldurap_balance(few, 1, 1, 1), BalanceAnswer { number: 0, k: 800_000, digits: 7, grams: 21_705_746 }, "BalanceAnswer");
+    c.same(haldurap_balance(settled(few), 1, 1, 1), BalanceAnswer { number: 0, k: 800_000, digits: 7, grams: 21_705_746 }, "BalanceAnswer");
     c.same(report(run, &mut [0; 400]), LengthAnswer { number: 0, bytes: 388 }, "LengthAnswer");
     c.same(report(run, &mut [0; 387]), LengthAnswer { number: 14, bytes: 0 }, "LengthAnswer");
     let row = MapRowAnswer { number: 0, urban: 6_038_000.0, rural: 6_118_000.0, highway: 6_939_000.0, cold: 8_037_182.0 };
@@ -298,10 +343,10 @@ fn lists(c: &mut Check, fresh: Run, run: Run) {
 /// In order, and each word out of it.
 fn orders(c: &mut Check, fresh: Run, run: Run) {
     c.same((in_order(fresh), in_order(run), in_order(ZEROS)), (true, true, false), "in_order");
-    for i in 0..141 {
-        let mut words: [u64; 141] = unsafe { transmute(run) };
+    for i in 0..RUN_WORDS {
+        let mut words: [u64; RUN_WORDS] = unsafe { transmute(run) };
         words[i] |= 1 << 63;
-        c.same(haldurap_in_order(unsafe { transmute::<[u64; 141], Run>(words) }), 0, "in_order of a damaged word");
+        c.same(haldurap_in_order(unsafe { transmute::<[u64; RUN_WORDS], Run>(words) }), 0, "in_order of a damaged word");
     }
 }
 
@@ -319,6 +364,7 @@ fn joins(c: &mut Check, fresh: Run, run: Run) {
         (first.grams[i], second.grams[i], both.grams[i]) = (1000 + n, 50_000 + 7 * n, 51_000 + 8 * n + more);
         (first.rests[i], second.rests[i], both.rests[i]) = (600_000_000 + n, 100_000_000 + more * 300_000_000, 700_000_000 + n - more * 700_000_000);
     }
+    let [first, second, both] = [first, second, both].map(settled);
     joined(first, second, TAKEN, both, "join");
     joined(second, first, TAKEN, both, "join");
     for run in [first, second, both, fresh] {
@@ -328,7 +374,7 @@ fn joins(c: &mut Check, fresh: Run, run: Run) {
     // the run of two records, added or joined
     joined(run, run, TAKEN, haldurap_add(run, RECORD).run, "join of two records");
     let damaged = |run: Run, i: usize, change: fn(u64) -> u64| -> Run {
-        let mut words: [u64; 141] = unsafe { transmute(run) };
+        let mut words: [u64; RUN_WORDS] = unsafe { transmute(run) };
         words[i] = change(words[i]);
         unsafe { transmute(words) }
     };
@@ -339,7 +385,7 @@ fn joins(c: &mut Check, fresh: Run, run: Run) {
         joined(other, first, HEADS_DIFFER, other, "join of other heads");
     }
     // each word out of its range, in either run: before the others
-    for i in 0..141 {
+    for i in 0..RUN_WORDS {
         let mut bad = Run { count: 4998, ..second };
         bad.x[15] += 1;
         let bad = damaged(bad, i, |n| n | 1 << 63);
@@ -395,7 +441,7 @@ fn areas(c: &mut Check, fresh: Run) {
     // another length, 16 before all else, and every number stays; no number behind the areas is touched
     let mut lent = [&numbers_of(&good)[..], &[u64::MAX; AREAS_NUMBERS]].concat();
     let (before, nothing) = (lent.clone(), Record { class: 0, ..RECORD });
-    for length in [0, 1, 141, AREAS_NUMBERS - 1, AREAS_NUMBERS + 1, 2 * AREAS_NUMBERS] {
+    for length in [0, 1, RUN_WORDS, 2257, AREAS_NUMBERS - 1, AREAS_NUMBERS + 1, 2 * AREAS_NUMBERS] {
         let p = lent.as_mut_ptr();
         let opening = unsafe { [haldurap_open_areas(p, length, HEAD), haldurap_open_areas(p, length, cold)] };
         let adding = unsafe { [haldurap_add_area(p, length, 3, RECORD), haldurap_add_area(p, length, 16, nothing)] };
@@ -459,6 +505,7 @@ fn areas(c: &mut Check, fresh: Run) {
                 let areas = changed(&|a| {
                     a.runs[i] = Run { count: 3, ..fresh };
                     *field(&mut a.runs[i]) = value;
+                    a.runs[i] = settled(a.runs[i]);
                 });
                 tried(c, &areas, other as u64, number, number, "Areas.runs at its limit and over it");
             }
@@ -466,6 +513,11 @@ fn areas(c: &mut Check, fresh: Run) {
         (0..3).for_each(|j| limit(3_000_000_000, &|r| &mut r.km[j]));
         (0..60).for_each(|j| limit(3_000_000_000_000, &|r| &mut r.grams[j]));
         (0..60).for_each(|j| limit(999_999_999, &|r| &mut r.rests[j]));
+        // each total off by one gram and by one billionth
+        for j in 0..15 {
+            tried(c, &changed(&|a| a.runs[i].total_grams[j] ^= 1), other as u64, 16, 16, "Areas.runs.total_grams");
+            tried(c, &changed(&|a| a.runs[i].total_rests[j] ^= 1), other as u64, 16, 16, "Areas.runs.total_rests");
+        }
         // L and each X, good by themselves, but another head's; the same in all, up to their limits
         let mut of_head = |field: &dyn Fn(&mut Run) -> &mut u64, most: u64| {
             tried(c, &changed(&|a| *field(&mut a.runs[i]) += 1), other as u64, 16, 16, "Areas.runs of another head");

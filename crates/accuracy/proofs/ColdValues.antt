@@ -20,9 +20,9 @@ use Rattle.coldstart.specs.ColdStart.{slopeOf, monthAt, coldSum, xDenominator}
 use Rattle.coldstart.proofs.ColdStart.{hundredths}
 use Rattle.inventory.specs.declared.Head.{Head}
 use Rattle.inventory.specs.declared.Record.{Record}
-use Rattle.inventory.specs.Order.{inOrder}
+use Rattle.inventory.specs.Order.{inOrder, sumAt, exactTotal}
 use Rattle.inventory.specs.Opening.{emptyRun, freshRun}
-use Rattle.inventory.specs.Adding.{billionths, coldRate, hotPart, coldPart, partOf, partAt}
+use Rattle.inventory.specs.Adding.{billionths, coldRate, hotPart, coldPart, partOf, partAt, totalMade, withTotals}
 use Rattle.inventory.proofs.Fresh.{empty-order}
 use Rattle.accuracy.specs.Reference.{coldSumOf, weightOf, exactX, hasRoom, accepts, acceptedFrom, accepted}
 use Rattle.accuracy.specs.Claim.{runAfter}
@@ -108,7 +108,7 @@ module _ (xs ys : List ℕ) (same : SameFifteen xs ys) where
   same-slot (rec ∷ l) w j h = rw (same-part rec j h (λ c z. w .0 c), same-slot l (w .1) j h)
 
   same-closed : (trip : ℕ) (l : List Record) → WithoutClass3 l → closed trip ys l ≡ withX ys (closed trip xs l)
-  unfolding closed
+  unfolding closed withTotals totalMade exactTotal sumAt
   same-closed trip l w =
       rw (
         tab-alike (gramsOf ys l) (gramsOf xs l) 60 (λ j h. ap (λ n. billionths n .grams) (same-slot l w j h)),

@@ -14,16 +14,15 @@ use Rattle.inventory.specs.declared.Head.{Head}
 use Rattle.inventory.specs.declared.Record.{Record}
 use Rattle.inventory.specs.declared.Run.{Run}
 use Rattle.inventory.specs.Records.{vehicleKm}
-use Rattle.inventory.specs.Order.{inOrder, sameHead, kmIn, sumAt}
-use Rattle.inventory.specs.Adding.{kmOf, runWith, addNumber, addRun}
+use Rattle.inventory.specs.Order.{inOrder, sameHead, kmIn, sumAt, place, exactTotal}
+use Rattle.inventory.specs.Adding.{kmOf, withTotals, raised, runWith, addNumber, addRun}
 use Rattle.inventory.specs.Opening.{emptyRun, freshRun, openNumber, openRun}
-use Rattle.inventory.specs.Printed.{place, exactTotal}
 use Rattle.inventory.proofs.Adding.{add-taken}
 use Rattle.inventory.proofs.Fresh.{empty-sum, empty-km, opened-is, fresh-order}
 use Rattle.inventory.proofs.Heads.{x-same}
 use Rattle.inventory.proofs.Kept.{km-at, sum-with, order-kept}
-use Rattle.joins.specs.Joining.{joinNumber, joined, joinRun}
-use Rattle.joins.proofs.Laws.{taken, km-in, sum-in, order-joined}
+use Rattle.joins.specs.Joining.{joinNumber, addedUp, joined, joinRun}
+use Rattle.joins.proofs.Laws.{taken, km-in, exact-in, order-joined}
 use Rattle.accuracy.specs.Reference.{exactOf, Reference, acceptable, hasRoom, accepts, empty, withRecord, fed, referenceFrom, referenceOf}
 use Rattle.accuracy.specs.Conditions.{headX, headsDiffer, joiningNumber}
 use Rattle.accuracy.specs.Claim.{runAfter}
@@ -105,7 +104,7 @@ total-with run rec fuel quantity f q = total-by (runWith run rec) (sumAt run) _ 
 module _ (head own : Head) (taken : openNumber own ≡ 0) (same : (i : ℕ) → i < xCount → getD (headX head) i 0 ≡ getD (headX own) i 0) where
   with-measured : (run : Run) (t : Reference) (rec : Record) → Measured head run t → accepts (hasRoom (t .count)) rec ≡ true
       → inOrder (runWith run rec) ≡ true → Measured head (runWith run rec) (withRecord own t rec)
-  unfolding runWith withRecord exactOf kmOf
+  unfolding runWith withTotals raised withRecord exactOf kmOf
   with-measured run t rec m e o =
       record {
         trip = m .trip;
@@ -141,18 +140,13 @@ module _ (head own : Head) (taken : openNumber own ≡ 0) (same : (i : ℕ) → 
 
 -- ---- a join
 
-total-joined : (a b : Run) (fuel quantity : ℕ) → fuel < 3 → quantity < 5
-    → exactTotal (joined a b) fuel quantity ≡ exactTotal a fuel quantity + exactTotal b fuel quantity
-unfolding exactTotal
-total-joined a b fuel quantity f q = total-by (joined a b) (sumAt a) (sumAt b) fuel quantity f q (sum-in a b)
-
 module _ (first second : Head) (a b : Run) (s t : Reference) (m : Measured first a s) (n : Measured second b t) where
   -- 16 fits neither run, so heads and counts decide
   pub join-number : joinNumber a b ≡ joiningNumber first second (s .count) (t .count)
   join-number = rw (← m .count, ← n .count) (joining a b first second (m .trip) (m .x) (n .trip) (n .x) (m .order) (n .order))
 
   both-measured : a .count + b .count ≤ 5000 → Measured first (joined a b) (together s t)
-  unfolding joined together
+  unfolding joined withTotals addedUp together
   both-measured few =
       record {
         trip = m .trip;
@@ -161,7 +155,7 @@ module _ (first second : Head) (a b : Run) (s t : Reference) (m : Measured first
         count = omega (arith, m .count, n .count);
         km = λ fuel f. omega (arith, km-in a b fuel f, m .km fuel f, n .km fuel f);
         positive = λ fuel quantity. plus-positive _ _ (m .positive fuel quantity) (n .positive fuel quantity);
-        near = λ fuel quantity f q. rw (total-joined a b fuel quantity f q) (near-plus _ _ _ _ _ _ (m .near fuel quantity f q) (n .near fuel quantity f q));
+        near = λ fuel quantity f q. rw (exact-in a b fuel quantity f q) (near-plus _ _ _ _ _ _ (m .near fuel quantity f q) (n .near fuel quantity f q));
       }
 
   join-measured : Measured first (joinRun a b) (joinedReference first second s t)

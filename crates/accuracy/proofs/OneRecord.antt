@@ -26,7 +26,7 @@ use Rattle.inventory.specs.declared.Record.{Record}
 use Rattle.inventory.specs.Records.{recordGrounds, vehicleKm, speedOf}
 use Rattle.inventory.specs.Limits.{RecordLimits}
 use Rattle.inventory.specs.Adding.{hotPart, coldRate, coldPart, partOf, partAt}
-use Rattle.inventory.specs.Printed.{place}
+use Rattle.inventory.specs.Order.{place}
 use Rattle.inventory.specs.Opening.{openNumber}
 use Rattle.inventory.proofs.Records.{period-taken, record-limits}
 use Rattle.accuracy.specs.Reference.{acceptable, accepts, weightOf, exactX, exactHot, exactCold, exactOf}

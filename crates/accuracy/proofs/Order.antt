@@ -12,9 +12,10 @@ use Rattle.units.proofs.Tests.{and-left, and-right}
 use Rattle.units.proofs.Tab.{tab-alike}
 use Rattle.inventory.specs.declared.Record.{Record}
 use Rattle.inventory.specs.Adding.{billionths, partAt, kmOf}
+use Rattle.inventory.proofs.Runs.{totals-by}
 use Rattle.accuracy.specs.Reference.{sameRecord, occurs}
 use Rattle.accuracy.proofs.Sums.{sumOf}
-use Rattle.accuracy.proofs.Closed.{slotSum, kmSum, kmsOf, gramsOf, restOf, closed}
+use Rattle.accuracy.proofs.Closed.{slotSum, kmSum, kmsOf, gramsOf, restOf, closedSums, closed}
 
 -- ---- sameness is equality
 
@@ -113,11 +114,8 @@ pub closed-same : (trip : ℕ) (xs : List ℕ) (l m : List Record) → ((rec : R
 unfolding closed slotSum kmSum
 closed-same trip xs l m o =
     let sums : (j : ℕ) → slotSum xs l j ≡ slotSum xs m j = λ j. sums-same (λ rec. partAt xs rec j) l m o in
-    λ i. record {
-      trip = trip;
-      x = xs;
-      count = (length-sum l ∙ sums-same (λ b. 1) l m o ∙ sym (length-sum m)) i;
-      km = tab-alike (kmsOf l) (kmsOf m) 3 (λ f b. ap (λ k. record { 0 = k }) (sums-same (λ rec. kmOf rec f) l m o)) i;
-      grams = tab-alike (gramsOf xs l) (gramsOf xs m) 60 (λ j b. ap (λ n. billionths n .grams) (sums j)) i;
-      rests = tab-alike (restOf xs l) (restOf xs m) 60 (λ j b. ap (λ n. billionths n .rest) (sums j)) i;
-    }
+    totals-by (closedSums trip xs l) (closedSums trip xs m) refl refl
+    (length-sum l ∙ sums-same (λ b. 1) l m o ∙ sym (length-sum m))
+    (tab-alike (kmsOf l) (kmsOf m) 3 (λ f b. ap (λ k. record { 0 = k }) (sums-same (λ rec. kmOf rec f) l m o)))
+    (tab-alike (gramsOf xs l) (gramsOf xs m) 60 (λ j b. ap (λ n. billionths n .grams) (sums j)))
+    (tab-alike (restOf xs l) (restOf xs m) 60 (λ j b. ap (λ n. billionths n .rest) (sums j)))

@@ -41,7 +41,17 @@ WithoutClass3 (rec ∷ recs) = (rec .class ≡ 3 → ⊥) × WithoutClass3 recs
 
 -- the run with other values X
 abbrev pub withX : List ℕ → Run → Run
-withX xs run = record { trip = run .trip; x = xs; count = run .count; km = run .km; grams = run .grams; rests = run .rests }
+withX xs run =
+    record {
+      trip = run .trip;
+      x = xs;
+      count = run .count;
+      km = run .km;
+      grams = run .grams;
+      rests = run .rests;
+      «total_grams» = run .«total_grams»;
+      «total_rests» = run .«total_rests»;
+    }
 
 -- the sum of B × Q of a head over the twelve months
 abbrev pub sumOfMonths : Head → ℕ → ℕ → ℕ

@@ -16,6 +16,7 @@ use Rattle.inventory.specs.Opening.{zeroRun, openNumber, openRun}
 use Rattle.inventory.specs.Adding.{addNumber, addRun}
 use Rattle.accuracy.specs.Reference.{accepted}
 use Rattle.accuracy.specs.Claim.{runAfter}
+use Rattle.inventory.specs.Adding.{withTotals}
 use Rattle.accuracy.proofs.Closed.{closed}
 use Rattle.accuracy.proofs.Whole.{after}
 use Rattle.add_list.specs.declared.FirstRefused.{FirstRefused}
@@ -137,7 +138,7 @@ module _ (head : Head) (numbers : List ℕ) where
     given-run = rw z
 
     pub given-taken : openNumber head ≡ 0 → runAfter (openRun head) (recordsOf numbers) .count ≡ listTaken head numbers
-    unfolding listTaken closed
+    unfolding listTaken closed withTotals
     given-taken o = rw (z, after head o (recordsOf numbers))
 
     pub given-first : firstRefused (openRun head) 1 (recordsOf numbers) ≡ listFirst head numbers

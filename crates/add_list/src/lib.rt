@@ -46,7 +46,8 @@ fn note(first: FirstRefused, place: usize, number: u64) -> FirstRefused
     first
 }
 
-// The lent records added to a run, nine numbers each. It is in order and kept by its parts, so that no record tests or copies it.
+// The lent records added to a run, nine numbers each. It is in order and kept by its parts, so that no record tests or copies it;
+// its totals are made once, at the end.
 fn add_all(run: Run, numbers: &[u64]) -> Progress
     requires { ⌜ inOrder run ≡ true ⌝ }
     ensures run { λ r. ⌜ r .run ≡ runAfter run (recordsOf (now (numbers .entry))) ⌝ }
@@ -79,17 +80,20 @@ fn add_all(run: Run, numbers: &[u64]) -> Progress
         count += 1;
     }
     let grams = whole.sums;
-    Progress {
-        run: Run {
-            trip,
-            x,
-            count,
-            km,
-            grams,
-            rests,
-        },
-        first,
-    }
+    let total_grams = run.total_grams;
+    let total_rests = run.total_rests;
+    let sums = Run {
+        trip,
+        x,
+        count,
+        km,
+        grams,
+        rests,
+        total_grams,
+        total_rests,
+    };
+    let run = run_totals::with_totals(sums);
+    Progress { run, first }
 }
 
 // A list that is refused: the run of zeros and no record.

@@ -12,8 +12,9 @@ use Rattle.inventory.specs.declared.Run.{Run}
 use Rattle.inventory.specs.Records.{recordGrounds}
 use Rattle.inventory.specs.Limits.{Shaped}
 use Rattle.inventory.specs.Order.{inOrder, sameHead}
-use Rattle.inventory.specs.Adding.{runWith}
+use Rattle.inventory.specs.Adding.{withTotals, raised, runWith}
 use Rattle.inventory.proofs.Kept.{order-with}
+use Rattle.inventory.proofs.Records.{record-limits}
 use Rattle.inventory.proofs.Runs.{shaped-with}
 use Rattle.accuracy.specs.Reference.{acceptable}
 use Rattle.areas.specs.Areas.{Areas, countsOf, beyondOwn, commonUse, areaOk, areasInOrder, commonAfter, withRun, areasWith}
@@ -38,7 +39,7 @@ module _ (a : Areas) (add : AreaAdd) where
   there i e = rw (ne-eqb i (add .area) e)
 
   count-here : countsOf next (add .area) ≡ countsOf a (add .area) + 1
-  unfolding runWith
+  unfolding runWith withTotals raised
   count-here = ap (λ r. r .count) (here (add .area) refl)
 
   count-there : (j : ℕ) → (j ≡ add .area → ⊥) → countsOf next j ≡ countsOf a j
@@ -64,11 +65,11 @@ module _ (a : Areas) (add : AreaAdd) where
     own = eqb-true _ 0 (accepts-own (countsOf a) add t)
 
     kept-order : inOrder (runWith (a .runs (add .area)) (add .rec)) ≡ true
-    kept-order = order-with (a .runs (add .area)) (add .rec) (run-ok a o (add .area) low) own (omega (arith, accepts-few (countsOf a) add t))
+    kept-order = order-with (a .runs (add .area)) (add .rec) (run-ok a o (add .area) low) (record-limits _ own) (omega (arith, accepts-few (countsOf a) add t))
 
     -- L and X of every area are as they were
     head-kept : (i : ℕ) (b : Bool) → eqb i (add .area) ≡ b → (next .runs i .trip ≡ a .runs i .trip) × (next .runs i .x ≡ a .runs i .x)
-    unfolding runWith
+    unfolding runWith withTotals raised
     head-kept i true e = let q : i ≡ add .area = eqb-true i (add .area) e in rw (here i q, q) (refl, refl)
     head-kept i false e = rw (there i (eqb-false i (add .area) e)) (refl, refl)
 

@@ -40,7 +40,7 @@ use Rattle.area_claims.proofs.References.{room-own, entered, passed-by,
 
 all-shaped : (numbers : List ℕ) (i : ℕ) → i < 16 → Shaped (areasOf numbers .runs i)
 unfolding areasOf
-all-shaped numbers i h = shaped-at numbers (i * 141)
+all-shaped numbers i h = shaped-at numbers (i * 171)
 
 module _ (numbers : List ℕ) (o : numbersInOrder numbers ≡ true) (add : AreaAdd) where
   -- refused: every number stays
@@ -253,9 +253,9 @@ module _ (head : Head) (taken : openNumber head ≡ 0) where
 -- ---- the claim
 
 opening : (numbers : List ℕ) (head : Head)
-    → openAreasNumber numbers head ≡ cond (not (eqb (length numbers) 2257)) 16 (openingNumber head)
+    → openAreasNumber numbers head ≡ cond (not (eqb (length numbers) 2737)) 16 (openingNumber head)
 unfolding openAreasNumber firstFit openNumber
-opening numbers head = ap (λ n. cond (not (eqb (length numbers) 2257)) 16 n) (conditions.opening head)
+opening numbers head = ap (λ n. cond (not (eqb (length numbers) 2737)) 16 n) (conditions.opening head)
 
 every-list : (numbers : List ℕ) (head : Head) → openAreasNumber numbers head ≡ 0 → EveryAreasList head (openAreasNumbers numbers head)
 unfolding openAreasNumbers

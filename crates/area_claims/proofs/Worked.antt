@@ -12,10 +12,10 @@ use Rattle.factors.specs.Factors.{coefficients, twoStroke, curve, emissionFacto
 use Rattle.calendar.specs.Periods.{periodGrounds}
 use Rattle.coldstart.specs.ColdStart.{temperatureOk, coldShare, slopes, coldRatio, coldExcess, monthProduct, coldSum, xFrom, coldX, coldFactor}
 use Rattle.inventory.specs.Records.{temperaturesWrong, headGrounds, vehicleKm, sharesWrong, speedsWrong, recordGrounds}
-use Rattle.inventory.specs.Order.{sumAt, sumWithin, inOrder}
-use Rattle.inventory.specs.Adding.{billionths, hotPart, coldRate, coldPart, partOf, partAt, slotAfter, kmOf, kmAfter, runWith, addGrounds, addNumber, addRun}
+use Rattle.inventory.specs.Order.{sumAt, exactTotal, sumWithin, isAmount, inOrder}
+use Rattle.inventory.specs.Adding.{billionths, totalMade, withTotals, hotPart, coldRate, coldPart, partOf, partAt, slotAfter, kmOf, kmAfter, raised, runWith, addGrounds, addNumber, addRun}
 use Rattle.inventory.specs.Opening.{emptyRun, freshRun, openNumber, openRun}
-use Rattle.inventory.specs.Printed.{exactTotal, printedTotal, totalGrounds, answered, totalOf}
+use Rattle.inventory.specs.Printed.{printedTotal, totalGrounds, answered, totalOf}
 use Rattle.accuracy.specs.Reference.{acceptable, accepts}
 use Rattle.accuracy.specs.Claim.{runAfter}
 use Rattle.accuracy.specs.Numbers.{exampleHead, exampleOf}
@@ -39,11 +39,11 @@ unfolding acceptedIn acceptedInFrom entersArea acceptsIn countsWith noArea fullA
 accepted-other = refl
 
 co-class-2 : totalOf (runAfter (openRun exampleHead) (exampleOf 2 ∷ exampleOf 2 ∷ [])) 1 1 .grams ≡ 54264364
-unfolding tab allBelow sumTo outside firstFit halfUp quadratic fuelOf hasCold hasOwnX betaReduction xPlace coefficients twoStroke curve emissionFactor temperatureOk coldShare slopes coldRatio coldExcess monthProduct coldSum xFrom coldX coldFactor periodGrounds temperaturesWrong headGrounds vehicleKm sharesWrong speedsWrong recordGrounds sumAt sumWithin inOrder billionths hotPart coldRate coldPart partOf partAt slotAfter kmOf kmAfter runWith addGrounds addNumber addRun emptyRun freshRun openNumber openRun exactTotal printedTotal totalGrounds answered totalOf runAfter
+unfolding tab allBelow sumTo outside firstFit halfUp quadratic fuelOf hasCold hasOwnX betaReduction xPlace coefficients twoStroke curve emissionFactor temperatureOk coldShare slopes coldRatio coldExcess monthProduct coldSum xFrom coldX coldFactor periodGrounds temperaturesWrong headGrounds vehicleKm sharesWrong speedsWrong recordGrounds sumAt exactTotal sumWithin isAmount inOrder billionths totalMade withTotals hotPart coldRate coldPart partOf partAt slotAfter kmOf kmAfter raised runWith addGrounds addNumber addRun emptyRun freshRun openNumber openRun printedTotal totalGrounds answered totalOf runAfter
 co-class-2 = refl
 
 co-class-6 : totalOf (runAfter (openRun exampleHead) (exampleOf 6 ∷ [])) 2 1 .grams ≡ 14646798
-unfolding tab allBelow sumTo outside firstFit halfUp quadratic fuelOf hasCold hasOwnX betaReduction xPlace coefficients twoStroke curve emissionFactor temperatureOk coldShare slopes coldRatio coldExcess monthProduct coldSum xFrom coldX coldFactor periodGrounds temperaturesWrong headGrounds vehicleKm sharesWrong speedsWrong recordGrounds sumAt sumWithin inOrder billionths hotPart coldRate coldPart partOf partAt slotAfter kmOf kmAfter runWith addGrounds addNumber addRun emptyRun freshRun openNumber openRun exactTotal printedTotal totalGrounds answered totalOf runAfter
+unfolding tab allBelow sumTo outside firstFit halfUp quadratic fuelOf hasCold hasOwnX betaReduction xPlace coefficients twoStroke curve emissionFactor temperatureOk coldShare slopes coldRatio coldExcess monthProduct coldSum xFrom coldX coldFactor periodGrounds temperaturesWrong headGrounds vehicleKm sharesWrong speedsWrong recordGrounds sumAt exactTotal sumWithin isAmount inOrder billionths totalMade withTotals hotPart coldRate coldPart partOf partAt slotAfter kmOf kmAfter raised runWith addGrounds addNumber addRun emptyRun freshRun openNumber openRun printedTotal totalGrounds answered totalOf runAfter
 co-class-6 = refl
 
 module _ (numbers : List ℕ) (taken : openAreasNumber numbers exampleHead ≡ 0) where

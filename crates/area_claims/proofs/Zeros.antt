@@ -33,18 +33,20 @@ number-none k =
     (both (ltb k 17) _ _ (same-at 0 noRest 16 (k - 1) (λ j. refl))
     (both (ltb k 18) _ _ refl
     (both (ltb k 21) _ _ (ap (λ v. v .0) (same-at (record { 0 = 0 }) noKm 3 (k - 18) (λ j. refl)))
-    (both (ltb k 81) _ _ (ap (λ v. v .0) (same-at (record { 0 = 0 }) noGrams 60 (k - 21) (λ j. refl))) (same-at 0 noRest 60 (k - 81) (λ j. refl))))))
+    (both (ltb k 81) _ _ (ap (λ v. v .0) (same-at (record { 0 = 0 }) noGrams 60 (k - 21) (λ j. refl)))
+    (both (ltb k 141) _ _ (same-at 0 noRest 60 (k - 81) (λ j. refl))
+    (both (ltb k 156) _ _ (ap (λ v. v .0) (same-at (record { 0 = 0 }) noGrams 15 (k - 141) (λ j. refl))) (same-at 0 noRest 15 (k - 156) (λ j. refl))))))))
 
-module _ (numbers : List ℕ) (head : Head) (size : length numbers ≡ 2257) where
+module _ (numbers : List ℕ) (head : Head) (size : length numbers ≡ 2737) where
   -- a head that is refused
   head-refused : (openAreasNumber numbers head ≡ 0 → ⊥) → openNumber head ≡ 0 → ⊥
   unfolding openAreasNumber openNumber firstFit
-  head-refused h z = h (rw (eq-eqb (length numbers) 2257 size) z)
+  head-refused h z = h (rw (eq-eqb (length numbers) 2737 size) z)
 
   number-at : (openNumber head ≡ 0 → ⊥) → (j : ℕ) → areasNumber (openedAreas head) j ≡ 0
   unfolding areasNumber openedAreas openRun
-  number-at h j = rw (ne-eqb (openNumber head) 0 h) (both (ltb j 2256) _ _ (number-none (j % 141)) refl)
+  number-at h j = rw (ne-eqb (openNumber head) 0 h) (both (ltb j 2736) _ _ (number-none (j % 171)) refl)
 
-  pub zeros-left : (openAreasNumber numbers head ≡ 0 → ⊥) → openAreasNumbers numbers head ≡ tab (λ j. 0) 2257
+  pub zeros-left : (openAreasNumber numbers head ≡ 0 → ⊥) → openAreasNumbers numbers head ≡ tab (λ j. 0) 2737
   unfolding openAreasNumbers numbersOf
-  zeros-left h = rw (eq-eqb (length numbers) 2257 size) (tab-alike (areasNumber (openedAreas head)) (λ j. 0) 2257 (λ j l. number-at (head-refused h) j))
+  zeros-left h = rw (eq-eqb (length numbers) 2737 size) (tab-alike (areasNumber (openedAreas head)) (λ j. 0) 2737 (λ j l. number-at (head-refused h) j))

@@ -57,10 +57,10 @@ pub record EveryAreasList (head : Head) (opened : List ℕ) : Type 0 where
 pub record AreasClaim : Type 0 where
   -- opening refuses exactly where the length is another, or 1, 2, 19 or 20 fits, with the first that fits
   pub opening : (numbers : List ℕ) (head : Head)
-      → openAreasNumber numbers head ≡ cond (not (eqb (length numbers) 2257)) 16 (openingNumber head)
+      → openAreasNumber numbers head ≡ cond (not (eqb (length numbers) 2737)) 16 (openingNumber head)
   -- a head that it refuses leaves zeros alone; another length leaves every number (openAreasNumbers)
-  pub zeros : (numbers : List ℕ) (head : Head) → length numbers ≡ 2257 → (openAreasNumber numbers head ≡ 0 → ⊥)
-      → openAreasNumbers numbers head ≡ tab (λ j. 0) 2257
+  pub zeros : (numbers : List ℕ) (head : Head) → length numbers ≡ 2737 → (openAreasNumber numbers head ≡ 0 → ⊥)
+      → openAreasNumbers numbers head ≡ tab (λ j. 0) 2737
   -- every list of adds to areas that opening took, under every head
   pub lists : (numbers : List ℕ) (head : Head) → openAreasNumber numbers head ≡ 0 → EveryAreasList head (openAreasNumbers numbers head)
   -- any areas in order stay so, whatever is added

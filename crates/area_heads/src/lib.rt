@@ -9,7 +9,7 @@ ghost use Rattle.areas.specs.Numbers.{runAt};
 
 // Whether every X of the first run is in range.
 pub fn xs_ok(numbers: &[u64]) -> bool
-    requires { ⌜ 141 ≤ length (now numbers) ⌝ }
+    requires { ⌜ 171 ≤ length (now numbers) ⌝ }
     ensures { λ b. ⌜ b ≡ allBelow (xOk (runAt (now (numbers .entry)) 0)) xCount ⌝ }
 {
     let mut k: usize = 0;
@@ -24,7 +24,7 @@ pub fn xs_ok(numbers: &[u64]) -> bool
 
 // Whether the run at a place has the L and the X of the first.
 pub fn same_head(numbers: &[u64], at: usize) -> bool
-    requires { ⌜ at + 141 ≤ length (now numbers) ⌝ }
+    requires { ⌜ at + 171 ≤ length (now numbers) ⌝ }
     ensures { λ b. ⌜ b ≡ sameHead (runAt (now (numbers .entry)) 0) (runAt (now (numbers .entry)) at) ⌝ }
 {
     if numbers[0] != numbers[at] {

@@ -22,42 +22,42 @@ sameRuns run = record { runs = λ i. run; common = 0 }
 
 -- a loop has written the run to the first i areas
 pub record Spread (run : Run) (numbers : List ℕ) (i : ℕ) (l : List ℕ) : Type 0 where
-  pub part : Between 0 (areasNumber (sameRuns run)) numbers 2257 0 (i * 141) l
+  pub part : Between 0 (areasNumber (sameRuns run)) numbers 2737 0 (i * 171) l
 
-pub spread-none : (run : Run) (numbers : List ℕ) → length numbers ≡ 2257 → Spread run numbers 0 numbers
-spread-none run numbers h = record { part = between-none 0 (areasNumber (sameRuns run)) numbers 2257 0 0 h refl }
+pub spread-none : (run : Run) (numbers : List ℕ) → length numbers ≡ 2737 → Spread run numbers 0 numbers
+spread-none run numbers h = record { part = between-none 0 (areasNumber (sameRuns run)) numbers 2737 0 0 h refl }
 
-same-number : (run : Run) (i k j : ℕ) → j ≡ i * 141 + k → i < 16 → k < 141 → areasNumber (sameRuns run) j ≡ runNumber run k
+same-number : (run : Run) (i k j : ℕ) → j ≡ i * 171 + k → i < 16 → k < 171 → areasNumber (sameRuns run) j ≡ runNumber run k
 unfolding areasNumber
-same-number run i k j e h l = let z : j % 141 ≡ k = omega arith in rw (lt-ltb j 2256 (omega arith), z)
+same-number run i k j e h l = let z : j % 171 ≡ k = omega arith in rw (lt-ltb j 2736 (omega arith), z)
 
-pub spread-more : (run : Run) (numbers : List ℕ) (i : ℕ) (l m : List ℕ) → i < 16 → Spread run numbers i l → m ≡ writtenAt l (i * 141) (runNumber run) 141
+pub spread-more : (run : Run) (numbers : List ℕ) (i : ℕ) (l m : List ℕ) → i < 16 → Spread run numbers i l → m ≡ writtenAt l (i * 171) (runNumber run) 171
     → Spread run numbers (i + 1) m
 spread-more run numbers i l m h p e =
     rw e
     (record {
       part =
-          between-part (runNumber run) 141 (p .part) (omega arith) (omega arith) (λ k b. sym (same-number run i k (i * 141 + k) refl h b)) ((i + 1) * 141)
+          between-part (runNumber run) 171 (p .part) (omega arith) (omega arith) (λ k b. sym (same-number run i k (i * 171 + k) refl h b)) ((i + 1) * 171)
           (omega arith);
     })
 
-pub spread-done : (run : Run) (numbers : List ℕ) (i : ℕ) (l : List ℕ) → Spread run numbers i l → i ≤ 16 → 16 ≤ i → set l 2256 0 ≡ numbersOf (sameRuns run)
+pub spread-done : (run : Run) (numbers : List ℕ) (i : ℕ) (l : List ℕ) → Spread run numbers i l → i ≤ 16 → 16 ≤ i → set l 2736 0 ≡ numbersOf (sameRuns run)
 unfolding numbersOf areasNumber
 spread-done run numbers i l p a b =
-    between (between-more 2256 2257 0 (p .part) (omega arith) refl (omega arith) (omega arith) refl) (λ j h k. absurd (k (omega arith) (omega arith)))
+    between (between-more 2736 2737 0 (p .part) (omega arith) refl (omega arith) (omega arith) refl) (λ j h k. absurd (k (omega arith) (omega arith)))
 
 -- ---- the number and the numbers of opening
 
 module _ (numbers : List ℕ) (head : Head) where
-  pub open-short : (length numbers ≡ 2257 → ⊥) → (16 ≡ openAreasNumber numbers head) × (numbers ≡ openAreasNumbers numbers head)
+  pub open-short : (length numbers ≡ 2737 → ⊥) → (16 ≡ openAreasNumber numbers head) × (numbers ≡ openAreasNumbers numbers head)
   unfolding openAreasNumber openAreasNumbers firstFit
-  open-short h = (rw (ne-eqb (length numbers) 2257 h), rw (ne-eqb (length numbers) 2257 h))
+  open-short h = (rw (ne-eqb (length numbers) 2737 h), rw (ne-eqb (length numbers) 2737 h))
 
-  module _ (size : length numbers ≡ 2257) where
+  module _ (size : length numbers ≡ 2737) where
     pub open-number : (n : ℕ) → n ≡ openNumber head → n ≡ openAreasNumber numbers head
     unfolding openAreasNumber openNumber firstFit
-    open-number n e = rw (eq-eqb (length numbers) 2257 size) e
+    open-number n e = rw (eq-eqb (length numbers) 2737 size) e
 
     pub open-written : (run : Run) {l : List ℕ} → run ≡ openRun head → l ≡ numbersOf (sameRuns run) → l ≡ openAreasNumbers numbers head
     unfolding openAreasNumbers openedAreas
-    open-written run e q = q ∙ rw (eq-eqb (length numbers) 2257 size, e)
+    open-written run e q = q ∙ rw (eq-eqb (length numbers) 2737 size, e)

@@ -13,7 +13,7 @@ use Rattle.units.specs.Grounds.{outside}
 use Rattle.units.proofs.Tests.{all, at, fails, and-false, and-left}
 use Rattle.classes.specs.Classes.{xCount}
 use Rattle.inventory.specs.declared.Run.{Run}
-use Rattle.inventory.specs.Order.{xOk, sumOk, kmOk, inOrder, sameHead}
+use Rattle.inventory.specs.Order.{xOk, sumsOk, kmOk, inOrder, sameHead}
 use Rattle.inventory.proofs.Heads.{trip-same, x-same}
 use Rattle.inventory.proofs.Order.{bad-trip, bad-x, bad-count, bad-sum, last-test, count-of}
 use Rattle.areas.specs.Areas.{areaOk, areasInOrder, commonUse, countsOf, beyondOwn}
@@ -48,10 +48,10 @@ module _ (first run : Run) (trip : outside 10 200 (first .trip) ≡ false) (x : 
     pub over-count : 5000 < run .count → false ≡ (inOrder run && sameHead first run)
     over-count h = rw (← bad-count run h)
 
-    pub over-sum : allBelow (sumOk run) 60 ≡ false → false ≡ (inOrder run && sameHead first run)
+    pub over-sum : sumsOk run ≡ false → false ≡ (inOrder run && sameHead first run)
     over-sum h = rw (← bad-sum run h)
 
-    pub by-km : run .count ≤ 5000 → allBelow (sumOk run) 60 ≡ true → allBelow (kmOk run) 3 ≡ (inOrder run && sameHead first run)
+    pub by-km : run .count ≤ 5000 → sumsOk run ≡ true → allBelow (kmOk run) 3 ≡ (inOrder run && sameHead first run)
     by-km d e = rw (same, ← last-test run its-trip its-x d e) (sym (and-true (allBelow (kmOk run) 3)))
       where
         and-true : (b : Bool) → (b && true) ≡ b
@@ -61,18 +61,18 @@ module _ (first run : Run) (trip : outside 10 200 (first .trip) ≡ false) (x : 
 -- ---- the numbers as a whole
 
 module _ (numbers : List ℕ) where
-  pub bad-length : (length numbers ≡ 2257 → ⊥) → false ≡ numbersInOrder numbers
+  pub bad-length : (length numbers ≡ 2737 → ⊥) → false ≡ numbersInOrder numbers
   unfolding numbersInOrder
-  bad-length h = rw (ne-eqb (length numbers) 2257 h)
+  bad-length h = rw (ne-eqb (length numbers) 2737 h)
 
-  pub area-is : (i : ℕ) → areaOk (areasOf numbers) i ≡ (inOrder (runAt numbers (i * 141)) && sameHead (runAt numbers 0) (runAt numbers (i * 141)))
+  pub area-is : (i : ℕ) → areaOk (areasOf numbers) i ≡ (inOrder (runAt numbers (i * 171)) && sameHead (runAt numbers 0) (runAt numbers (i * 171)))
   unfolding areasOf
   area-is i = refl
 
-  module _ (size : length numbers ≡ 2257) where
+  module _ (size : length numbers ≡ 2737) where
     pub bad-area : (i : ℕ) → i < 16 → areaOk (areasOf numbers) i ≡ false → false ≡ numbersInOrder numbers
     unfolding numbersInOrder areasInOrder
-    bad-area i h e = rw (eq-eqb (length numbers) 2257 size, fails (areaOk (areasOf numbers)) 16 i h e)
+    bad-area i h e = rw (eq-eqb (length numbers) 2737 size, fails (areaOk (areasOf numbers)) 16 i h e)
 
     first-bad : inOrder (runAt numbers 0) ≡ false → false ≡ numbersInOrder numbers
     first-bad e = bad-area 0 (omega arith) (area-is 0 ∙ rw e)
@@ -83,23 +83,23 @@ module _ (numbers : List ℕ) where
     pub bad-first-x : allBelow (xOk (runAt numbers 0)) xCount ≡ false → false ≡ numbersInOrder numbers
     bad-first-x e = first-bad (sym (bad-x (runAt numbers 0) e))
 
-    pub bad-common : (common : ℕ) → common ≡ sumTo (beyondOwn (countsOf (areasOf numbers))) 16 → (getD numbers 2256 0 ≡ common → ⊥) → false ≡ numbersInOrder numbers
+    pub bad-common : (common : ℕ) → common ≡ sumTo (beyondOwn (countsOf (areasOf numbers))) 16 → (getD numbers 2736 0 ≡ common → ⊥) → false ≡ numbersInOrder numbers
     unfolding numbersInOrder areasInOrder commonUse areasOf
     bad-common common e h =
-        rw (eq-eqb (length numbers) 2257 size, ← e, ne-eqb (getD numbers 2256 0) common h, and-false (allBelow (areaOk (areasOf numbers)) 16))
+        rw (eq-eqb (length numbers) 2737 size, ← e, ne-eqb (getD numbers 2736 0) common h, and-false (allBelow (areaOk (areasOf numbers)) 16))
 
     pub last-common : (common : ℕ) → allBelow (areaOk (areasOf numbers)) 16 ≡ true → common ≡ sumTo (beyondOwn (countsOf (areasOf numbers))) 16
-        → getD numbers 2256 0 ≡ common → leb common 200 ≡ numbersInOrder numbers
+        → getD numbers 2736 0 ≡ common → leb common 200 ≡ numbersInOrder numbers
     unfolding numbersInOrder areasInOrder commonUse areasOf
-    last-common common a e h = rw (eq-eqb (length numbers) 2257 size, a, ← e, h, eq-eqb common common refl)
+    last-common common a e h = rw (eq-eqb (length numbers) 2737 size, a, ← e, h, eq-eqb common common refl)
 
   -- one area more
-  pub sum-more : (i common more : ℕ) → common ≡ sumTo (beyondOwn (countsOf (areasOf numbers))) i → more ≡ getD numbers (i * 141 + 17) 0 - 300
+  pub sum-more : (i common more : ℕ) → common ≡ sumTo (beyondOwn (countsOf (areasOf numbers))) i → more ≡ getD numbers (i * 171 + 17) 0 - 300
       → common + more ≡ sumTo (beyondOwn (countsOf (areasOf numbers))) (i + 1)
   unfolding sumTo areasOf
-  sum-more i common more e h = rw (add-one, ← e, h, count-read numbers (i * 141))
+  sum-more i common more e h = rw (add-one, ← e, h, count-read numbers (i * 171))
 
-  pub count-few : (i : ℕ) → areaOk (areasOf numbers) i ≡ true → getD numbers (i * 141 + 17) 0 ≤ 5000
+  pub count-few : (i : ℕ) → areaOk (areasOf numbers) i ≡ true → getD numbers (i * 171 + 17) 0 ≤ 5000
   count-few i h =
-      let o = and-left (inOrder (runAt numbers (i * 141))) (sameHead (runAt numbers 0) (runAt numbers (i * 141))) (sym (area-is i) ∙ h) in
-      let z = count-of (runAt numbers (i * 141)) o in rw (count-read numbers (i * 141)) at z
+      let o = and-left (inOrder (runAt numbers (i * 171))) (sameHead (runAt numbers 0) (runAt numbers (i * 171))) (sym (area-is i) ∙ h) in
+      let z = count-of (runAt numbers (i * 171)) o in rw (count-read numbers (i * 171)) at z

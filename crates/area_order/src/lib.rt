@@ -13,7 +13,7 @@ use units::VehicleKm;
 
 // Whether the kilometres of the run at a place are in order.
 fn kms_ok(numbers: &[u64], at: usize, count: u64) -> bool
-    requires { ⌜ at + 141 ≤ length (now numbers) ⌝ }
+    requires { ⌜ at + 171 ≤ length (now numbers) ⌝ }
     requires { ⌜ (count ≡ runAt (now numbers) at .count) × (count ≤ 5000) ⌝ }
     ensures { λ b. ⌜ b ≡ allBelow (kmOk (runAt (now (numbers .entry)) at)) 3 ⌝ }
 {
@@ -31,7 +31,7 @@ fn kms_ok(numbers: &[u64], at: usize, count: u64) -> bool
 
 // Whether the run at a place is in order and has the head of the first, whose L and X are in range.
 fn area_ok(numbers: &[u64], at: usize) -> bool
-    requires { ⌜ at + 141 ≤ length (now numbers) ⌝ }
+    requires { ⌜ at + 171 ≤ length (now numbers) ⌝ }
     requires { ⌜ outside 10 200 (runAt (now numbers) 0 .trip) ≡ false ⌝ }
     requires { ⌜ allBelow (xOk (runAt (now numbers) 0)) xCount ≡ true ⌝ }
     ensures { λ b. ⌜ b ≡ (inOrder (runAt (now (numbers .entry)) at) && sameHead (runAt (now (numbers .entry)) 0) (runAt (now (numbers .entry)) at)) ⌝ }
@@ -63,7 +63,7 @@ fn beyond_own(count: u64) -> u64
 pub fn in_order(numbers: &[u64]) -> bool
     ensures { λ b. ⌜ b ≡ numbersInOrder (now (numbers .entry)) ⌝ }
 {
-    if numbers.len() != 2257 {
+    if numbers.len() != 2737 {
         return false;
     }
     if units::is_outside(10, 200, numbers[0]) {
@@ -75,13 +75,13 @@ pub fn in_order(numbers: &[u64]) -> bool
     let mut common: u64 = 0;
     let mut i: usize = 0;
     while i < 16 {
-        if !area_ok(numbers, i * 141) {
+        if !area_ok(numbers, i * 171) {
             return false;
         }
-        common = common + beyond_own(numbers[i * 141 + 17]);
+        common = common + beyond_own(numbers[i * 171 + 17]);
         i += 1;
     }
-    if numbers[2256] != common {
+    if numbers[2736] != common {
         return false;
     }
     common <= 200

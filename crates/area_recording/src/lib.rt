@@ -1,4 +1,4 @@
-// Adding to an area, and the run of one. Areas are lent as 2,257 numbers and changed in place.
+// Adding to an area, and the run of one. Areas are lent as 2,737 numbers and changed in place.
 ghost use mathlib.Core.Path.{_≡_};
 ghost use Rattle.units.specs.Refusals.{verdictNumber};
 ghost use Rattle.areas.specs.Calls.{addAreaNumber, addAreaNumbers, areaRunNumber, areaRun};
@@ -18,9 +18,9 @@ pub fn add_area(numbers: &mut [u64], area: u64, rec: Record) -> Verdict
     if 15 < area {
         return Verdict::Refused(Refusal::NoArea);
     }
-    let at = area as usize * 141;
+    let at = area as usize * 171;
     let run = area_runs::run_at(numbers, at);
-    let common = numbers[2256];
+    let common = numbers[2736];
     let v = area_room::area_verdict(run.count, common, rec);
     match v {
         Verdict::Refused(x) => {
@@ -30,7 +30,7 @@ pub fn add_area(numbers: &mut [u64], area: u64, rec: Record) -> Verdict
     }
     let r = recording::run_with(run, rec);
     area_runs::put_run(numbers, at, r);
-    numbers[2256] = area_room::common_after(run.count, common);
+    numbers[2736] = area_room::common_after(run.count, common);
     Verdict::Taken
 }
 
@@ -52,7 +52,7 @@ pub fn area_run(numbers: &[u64], area: u64) -> AreaRun
         };
     }
     AreaRun {
-        run: area_runs::run_at(numbers, area as usize * 141),
+        run: area_runs::run_at(numbers, area as usize * 171),
         verdict: Verdict::Taken,
     }
 }

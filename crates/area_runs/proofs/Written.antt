@@ -15,7 +15,7 @@ use Rattle.units.proofs.Sums.{le-or-lt}
 use Rattle.units.proofs.Between.{Between, between-none, between-more, between}
 use Rattle.inventory.specs.declared.Run.{Run}
 use Rattle.areas.specs.Numbers.{runNumber}
-use Rattle.areas.proofs.Numbers.{number-trip, number-x, number-count, number-km, number-grams, number-rest}
+use Rattle.areas.proofs.Numbers.{number-trip, number-x, number-count, number-km, number-grams, number-rest, number-total-grams, number-total-rest}
 use Rattle.area_runs.specs.Written.{numberIn, kmNumber, gramsNumber, writtenNumber, writtenAt}
 
 module _ (numbers : List ℕ) (at : ℕ) (f : ℕ → ℕ) (n : ℕ) where
@@ -63,9 +63,9 @@ module _ (numbers : List ℕ) (at : ℕ) (f : ℕ → ℕ) (n : ℕ) where
       between q (λ j h k. put-kept numbers at f n j k)
 
 -- a number of a run, written to its place
-pub put-number : (numbers : List ℕ) (at : ℕ) (run : Run) (k j v : ℕ) → j ≡ at + k → k < 141 → v ≡ runNumber run k → v ≡ writtenNumber numbers at (runNumber run) 141 j
+pub put-number : (numbers : List ℕ) (at : ℕ) (run : Run) (k j v : ℕ) → j ≡ at + k → k < 171 → v ≡ runNumber run k → v ≡ writtenNumber numbers at (runNumber run) 171 j
 put-number numbers at run k j v e h p =
-    let z : j - at ≡ k = omega arith in p ∙ sym (put-in numbers at (runNumber run) 141 j (omega arith) (omega arith) ∙ ap (runNumber run) z)
+    let z : j - at ≡ k = omega arith in p ∙ sym (put-in numbers at (runNumber run) 171 j (omega arith) (omega arith) ∙ ap (runNumber run) z)
 
 -- ---- several parts, one behind the other
 
@@ -75,10 +75,6 @@ put-length numbers at f n = tab-length (writtenNumber numbers at f n) (length nu
 
 pub put-size : (l numbers : List ℕ) (at : ℕ) (f : ℕ → ℕ) (n : ℕ) → l ≡ writtenAt numbers at f n → length l ≡ length numbers
 put-size l numbers at f n e = ap length e ∙ put-length numbers at f n
-
--- the same part, counted by another name of its length
-pub put-count : (l numbers : List ℕ) (at : ℕ) (f : ℕ → ℕ) (n k : ℕ) → l ≡ writtenAt numbers at f n → n ≡ k → l ≡ writtenAt numbers at f k
-put-count l numbers at f n k e h = e ∙ ap (writtenAt numbers at f) h
 
 pub put-read : (numbers : List ℕ) (at : ℕ) (f : ℕ → ℕ) (n j : ℕ) → j < length numbers → getD (writtenAt numbers at f n) j 0 ≡ writtenNumber numbers at f n j
 unfolding writtenAt
@@ -117,16 +113,25 @@ module _ {F : ℕ → ℕ} {l₀ : List ℕ} {n lo hi : ℕ} {l : List ℕ} (f :
       })
 
 -- a run's parts, written one behind the other, are the run
-pub run-put : (numbers : List ℕ) (at : ℕ) (run : Run) → at + 141 ≤ length numbers
-    → writtenAt (writtenAt (writtenAt (set (writtenAt (set numbers at (run .trip)) (at + 1) (numberIn (run .x)) 16) (at + 17) (run .count)) (at + 18) (kmNumber (run .km)) 3) (at + 21) (gramsNumber (run .grams)) 60) (at + 81) (numberIn (run .rests)) 60
-    ≡ writtenAt numbers at (runNumber run) 141
+pub run-put : (numbers : List ℕ) (at : ℕ) (run : Run) → at + 171 ≤ length numbers
+    → writtenAt
+    (writtenAt
+    (writtenAt
+    (writtenAt
+    (writtenAt (set (writtenAt (set numbers at (run .trip)) (at + 1) (numberIn (run .x)) 16) (at + 17) (run .count)) (at + 18) (kmNumber (run .km)) 3)
+    (at + 21) (gramsNumber (run .grams)) 60) (at + 81) (numberIn (run .rests)) 60) (at + 141) (gramsNumber (run .«total_grams»)) 15) (at + 156)
+    (numberIn (run .«total_rests»)) 15
+    ≡ writtenAt numbers at (runNumber run) 171
 unfolding writtenAt
 run-put numbers at run h =
-    let F = writtenNumber numbers at (runNumber run) 141 in
-    let one = between-more at (at + 1) (run .trip) (between-none 0 F numbers (length numbers) at at refl refl) refl refl (omega arith) (omega arith) (put-number numbers at run 0 at _ (omega arith) (omega arith) (sym (number-trip run 0 refl))) in
-    let two = between-part (numberIn (run .x)) 16 one (omega arith) (omega arith) (λ i l. put-number numbers at run (i + 1) (at + 1 + i) _ (omega arith) (omega arith) (sym (number-x run (i + 1) i refl l))) (at + 17) (omega arith) in
-    let three = between-more (at + 17) (at + 18) (run .count) two refl (omega arith) (omega arith) (omega arith) (put-number numbers at run 17 (at + 17) _ refl (omega arith) (sym (number-count run 17 refl))) in
-    let four = between-part (kmNumber (run .km)) 3 three (omega arith) (omega arith) (λ i l. put-number numbers at run (i + 18) (at + 18 + i) _ (omega arith) (omega arith) (sym (number-km run (i + 18) i refl l))) (at + 21) (omega arith) in
-    let five = between-part (gramsNumber (run .grams)) 60 four (omega arith) (omega arith) (λ i l. put-number numbers at run (i + 21) (at + 21 + i) _ (omega arith) (omega arith) (sym (number-grams run (i + 21) i refl l))) (at + 81) (omega arith) in
-    let six = between-part (numberIn (run .rests)) 60 five (omega arith) (omega arith) (λ i l. put-number numbers at run (i + 81) (at + 81 + i) _ (omega arith) (omega arith) (sym (number-rest run (i + 81) i refl))) (at + 141) (omega arith) in
-    between six (λ j l k. put-kept numbers at (runNumber run) 141 j k)
+    let F = writtenNumber numbers at (runNumber run) 171 in
+    let put = put-number numbers at run in
+    let one = between-more at (at + 1) (run .trip) (between-none 0 F numbers (length numbers) at at refl refl) refl refl (omega arith) (omega arith) (put 0 at _ (omega arith) (omega arith) (sym (number-trip run 0 refl))) in
+    let two = between-part (numberIn (run .x)) 16 one (omega arith) (omega arith) (λ i l. put (i + 1) (at + 1 + i) _ (omega arith) (omega arith) (sym (number-x run (i + 1) i refl l))) (at + 17) (omega arith) in
+    let three = between-more (at + 17) (at + 18) (run .count) two refl (omega arith) (omega arith) (omega arith) (put 17 (at + 17) _ refl (omega arith) (sym (number-count run 17 refl))) in
+    let four = between-part (kmNumber (run .km)) 3 three (omega arith) (omega arith) (λ i l. put (i + 18) (at + 18 + i) _ (omega arith) (omega arith) (sym (number-km run (i + 18) i refl l))) (at + 21) (omega arith) in
+    let five = between-part (gramsNumber (run .grams)) 60 four (omega arith) (omega arith) (λ i l. put (i + 21) (at + 21 + i) _ (omega arith) (omega arith) (sym (number-grams run (i + 21) i refl l))) (at + 81) (omega arith) in
+    let six = between-part (numberIn (run .rests)) 60 five (omega arith) (omega arith) (λ i l. put (i + 81) (at + 81 + i) _ (omega arith) (omega arith) (sym (number-rest run (i + 81) i refl l))) (at + 141) (omega arith) in
+    let seven = between-part (gramsNumber (run .«total_grams»)) 15 six (omega arith) (omega arith) (λ i l. put (i + 141) (at + 141 + i) _ (omega arith) (omega arith) (sym (number-total-grams run (i + 141) i refl l))) (at + 156) (omega arith) in
+    let eight = between-part (numberIn (run .«total_rests»)) 15 seven (omega arith) (omega arith) (λ i l. put (i + 156) (at + 156 + i) _ (omega arith) (omega arith) (sym (number-total-rest run (i + 156) i refl))) (at + 171) (omega arith) in
+    between eight (λ j l k. put-kept numbers at (runNumber run) 171 j k)

@@ -49,9 +49,23 @@ fn grams_at(numbers: &[u64], at: usize) -> [Grams; 60]
     r
 }
 
+fn total_grams_at(numbers: &[u64], at: usize) -> [Grams; 15]
+    requires { ⌜ at + 15 ≤ length (now numbers) ⌝ }
+    ensures { λ r. ⌜ r ≡ tab (gramsAt (now (numbers .entry)) at) 15 ⌝ }
+{
+    let mut r = [Grams(0); 15];
+    let mut i: usize = 0;
+    while i < 15 {
+        let g = Grams(numbers[at + i]);
+        r[i] = g;
+        i += 1;
+    }
+    r
+}
+
 // The run at a place.
 pub fn run_at(numbers: &[u64], at: usize) -> Run
-    requires { ⌜ at + 141 ≤ length (now numbers) ⌝ }
+    requires { ⌜ at + 171 ≤ length (now numbers) ⌝ }
     ensures { λ r. ⌜ r ≡ runAt (now (numbers .entry)) at ⌝ }
 {
     let mut x = [0u64; 16];
@@ -60,6 +74,9 @@ pub fn run_at(numbers: &[u64], at: usize) -> Run
     let grams = grams_at(numbers, at + 21);
     let mut rests = [0u64; 60];
     read_numbers(numbers, at + 81, &mut rests);
+    let total_grams = total_grams_at(numbers, at + 141);
+    let mut total_rests = [0u64; 15];
+    read_numbers(numbers, at + 156, &mut total_rests);
     Run {
         trip: numbers[at],
         x,
@@ -67,6 +84,8 @@ pub fn run_at(numbers: &[u64], at: usize) -> Run
         km,
         grams,
         rests,
+        total_grams,
+        total_rests,
     }
 }
 
@@ -106,19 +125,35 @@ fn put_grams(numbers: &mut [u64], at: usize, from: [Grams; 60])
     }
 }
 
+fn put_total_grams(numbers: &mut [u64], at: usize, from: [Grams; 15])
+    requires { ⌜ at + 15 ≤ length (now numbers) ⌝ }
+    ensures { λ r. ⌜ now (numbers .exit) ≡ writtenAt (now (numbers .entry)) at (gramsNumber from) 15 ⌝ }
+{
+    let mut i: usize = 0;
+    while i < 15 {
+        let g = from[i];
+        numbers[at + i] = g.0;
+        i += 1;
+    }
+}
+
 // Writes a run to a place.
 pub fn put_run(numbers: &mut [u64], at: usize, run: Run)
-    requires { ⌜ at + 141 ≤ length (now numbers) ⌝ }
-    ensures { λ r. ⌜ now (numbers .exit) ≡ writtenAt (now (numbers .entry)) at (runNumber run) 141 ⌝ }
+    requires { ⌜ at + 171 ≤ length (now numbers) ⌝ }
+    ensures { λ r. ⌜ now (numbers .exit) ≡ writtenAt (now (numbers .entry)) at (runNumber run) 171 ⌝ }
 {
     let x = run.x;
     let km = run.km;
     let grams = run.grams;
     let rests = run.rests;
+    let total_grams = run.total_grams;
+    let total_rests = run.total_rests;
     numbers[at] = run.trip;
     put_numbers(numbers, at + 1, &x);
     numbers[at + 17] = run.count;
     put_kms(numbers, at + 18, km);
     put_grams(numbers, at + 21, grams);
     put_numbers(numbers, at + 81, &rests);
+    put_total_grams(numbers, at + 141, total_grams);
+    put_numbers(numbers, at + 156, &total_rests);
 }

@@ -26,12 +26,25 @@ fn print_run(run: Run) {
     }
     print_sums(run, 21);
     print_sums(run, 22);
+    print_totals(run, 141);
+    print_totals(run, 142);
 }
 
 // Every other of the 120 numbers of the sums: the grams from 21 on, the rests from 22 on.
 fn print_sums(run: Run, from: usize) {
     let mut i: usize = 0;
     while i < 60 {
+        if from < 1000 {
+            print(harness_runs::field_at(run, from + i * 2));
+        }
+        i += 1;
+    }
+}
+
+// The same of the 30 numbers of the totals, from 141 and 142 on.
+fn print_totals(run: Run, from: usize) {
+    let mut i: usize = 0;
+    while i < 15 {
         if from < 1000 {
             print(harness_runs::field_at(run, from + i * 2));
         }
@@ -109,7 +122,7 @@ fn changed(b: &[u8], at: usize, numbers: &mut [u64]) {
 
 // The same to the first n numbers.
 fn changed_part(b: &[u8], at: usize, numbers: &mut [u64], n: u64) {
-    if n <= 2400 {
+    if n <= 2880 {
         let k = n as usize;
         if k <= numbers.len() {
             changed(b, at, &mut numbers[..k]);
@@ -137,7 +150,7 @@ fn asked(b: &[u8], at: usize, numbers: &[u64]) {
 
 // The same of the first n numbers.
 fn asked_part(b: &[u8], at: usize, numbers: &[u64], n: u64) {
-    if n <= 2400 {
+    if n <= 2880 {
         let k = n as usize;
         if k <= numbers.len() {
             asked(b, at, &numbers[..k]);
@@ -147,7 +160,7 @@ fn asked_part(b: &[u8], at: usize, numbers: &[u64], n: u64) {
 
 // Changes a number by hand.
 fn put(numbers: &mut [u64], place: u64, value: u64) {
-    if place < 2400 {
+    if place < 2880 {
         let k = place as usize;
         if k < numbers.len() {
             numbers[k] = value;
@@ -171,8 +184,8 @@ fn change(b: &[u8], at: usize, numbers: &mut [u64], lent: u64) {
 
 // The common use.
 fn print_common(numbers: &[u64]) {
-    if 2256 < numbers.len() {
-        print(numbers[2256]);
+    if 2736 < numbers.len() {
+        print(numbers[2736]);
     }
 }
 
@@ -201,7 +214,7 @@ fn line(b: &[u8], at: usize, numbers: &mut [u64], lent: u64) -> u64 {
 
 // Every line, one after another.
 fn lines(b: &[u8], numbers: &mut [u64]) {
-    let mut lent: u64 = 2257;
+    let mut lent: u64 = 2737;
     let mut at: usize = 0;
     let mut turns: u64 = 0;
     while turns < 100000 && at < b.len() {
@@ -212,13 +225,13 @@ fn lines(b: &[u8], numbers: &mut [u64]) {
 }
 
 // Room for the cases.
-fn space() -> [u8; 262144] {
-    [0; 262144]
+fn space() -> [u8; 524288] {
+    [0; 524288]
 }
 
 fn main() {
     let mut b = space();
-    let mut numbers = [0u64; 2400];
+    let mut numbers = [0u64; 2880];
     let n = io::read_full(0, &mut b);
     lines(&b[..n], &mut numbers);
 }

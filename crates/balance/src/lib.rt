@@ -1,7 +1,7 @@
 // The balance of a run's totals against sold fuel.
 ghost use mathlib.Core.Path.{_≡_};
 ghost use Prim.Native.Nat.{_-_, _≤_, _<_};
-ghost use Rattle.inventory.specs.Limits.{RunLimits};
+ghost use Rattle.inventory.specs.Limits.{TotalLimits};
 ghost use Rattle.inventory.specs.Printed.{printedTotal};
 ghost use Rattle.balance.specs.Balance.{balancedAnswer, balanceOf, ratioInRange, BalanceNear, printedFuel};
 ghost use Rattle.balance.specs.Claim.{BalanceClaim};
@@ -43,7 +43,7 @@ fn ratio_in_range(s: u64, f: Grams) -> Ratio
 
 // F, the fuel from 0; a case for each, since at a constant place the run is not copied first.
 fn fuel_used(run: Run, fuel: usize) -> Grams
-    requires { ⌜ RunLimits run ⌝ }
+    requires { ⌜ TotalLimits run ⌝ }
     requires { ⌜ fuel < 3 ⌝ }
     ensures { λ g. ⌜ g .0 ≡ printedFuel run fuel ⌝ }
 {

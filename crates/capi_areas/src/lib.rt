@@ -1,4 +1,4 @@
-// The exports for C, Rust and Python over areas, which the caller lends: its struct of sixteen runs and the common use is 2,257
+// The exports for C, Rust and Python over areas, which the caller lends: its struct of sixteen runs and the common use is 2,737
 // numbers. Answers are a number and values.
 ghost use mathlib.Core.Path.{_≡_};
 ghost use Rattle.areas.specs.Calls.{openAreasNumber, openAreasNumbers, addAreaNumber, addAreaNumbers, areaRunNumber, areaRun};

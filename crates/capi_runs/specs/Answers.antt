@@ -8,6 +8,6 @@ use Rattle.capi_runs.specs.declared.Layout.{Layout}
 abbrev pub orderAnswer : Bool → ℕ
 orderAnswer ok = cond ok 1 0
 
--- the version of the structs' layout, and the size of a run in bytes: 141 words of 8
+-- the version of the structs' layout, and the size of a run in bytes: 171 words of 8
 abbrev pub layoutOf : Layout
-layoutOf = record { version = 6; size = 141 * 8 }
+layoutOf = record { version = 7; size = 171 * 8 }

@@ -23,8 +23,8 @@ pub extern "C" fn haldurap_layout() -> Layout
     ensures { λ r. ⌜ r ≡ layoutOf ⌝ }
 {
     Layout {
-        version: 6,
-        size: 1128,
+        version: 7,
+        size: 1368,
     }
 }
 

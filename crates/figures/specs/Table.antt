@@ -1,6 +1,6 @@
 -- The printed figures of a run as one table (SPECIFICATION, "Report").
 -- Assumes nothing.
-use Prim.Native.Nat.{ℕ, _+_, _*_, _/_, _%_, _≤_, _<_}
+use Prim.Native.Nat.{ℕ, _/_, _%_}
 use lib.ListN.{getD}
 use Rattle.units.specs.declared.Grams.{Grams}
 use Rattle.units.specs.Lists.{tab}
@@ -36,22 +36,13 @@ abbrev pub rowIn : Figures → ℕ → Row
 rowIn f k =
     getD (f .rows) k (record { urban = grams 0; rural = grams 0; highway = grams 0; cold = grams 0; total = grams 0 })
 
--- grams and a rest, in billionths of a gram
-abbrev pub inBillionths : Grams → ℕ → ℕ
-inBillionths g r = g .0 * 1000000000 + r
-
--- a sum of a run in order: whole grams and a rest
-pub record SumBounds (g : Grams) (r : ℕ) : Type 0 where
-  pub grams : g .0 ≤ 5000000000000000
-  pub rest : r < 1000000000
-
--- a row from its four sums, in billionths of a gram
-unfoldable pub rowFrom : ℕ → ℕ → ℕ → ℕ → Row
-rowFrom a b c d =
+-- a row from its four sums and its total, in billionths of a gram
+unfoldable pub rowFrom : ℕ → ℕ → ℕ → ℕ → ℕ → Row
+rowFrom a b c d t =
     record {
       urban = grams (halfUp a 1000000000);
       rural = grams (halfUp b 1000000000);
       highway = grams (halfUp c 1000000000);
       cold = grams (halfUp d 1000000000);
-      total = grams (halfUp (a + b + c + d) 1000000000);
+      total = grams (halfUp t 1000000000);
     }

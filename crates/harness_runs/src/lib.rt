@@ -2,7 +2,7 @@
 ghost use mathlib.Core.Path.{_≡_};
 ghost use Prim.Native.Nat.{min};
 ghost use Rattle.inventory.specs.Printed.{kindPlace, printedAnswer};
-ghost use Rattle.harness_runs.specs.Runs.{setField, fieldAt};
+ghost use Rattle.harness_runs.specs.Runs.{setField, totalField, fieldAt};
 use inventory::Kind;
 use inventory::Printed;
 use inventory::Run;
@@ -67,11 +67,33 @@ pub fn set_field(mut run: Run, field: u64, k: u64, value: u64) -> Run
         if k < 60 {
             run.rests[k as usize] = value;
         }
+    } else if field == 6 {
+        if k < 15 {
+            run.total_grams[k as usize] = Grams(value);
+        }
+    } else if field == 7 {
+        if k < 15 {
+            run.total_rests[k as usize] = value;
+        }
     }
     run
 }
 
-// Number i of a run's 141.
+// Number i of the 30 of the totals, grams and rest in turn.
+fn total_field(run: Run, i: usize) -> u64
+    ensures { λ r. ⌜ r ≡ totalField run i ⌝ }
+{
+    if 30 <= i {
+        return 0;
+    }
+    if i % 2 == 0 {
+        let g = run.total_grams[i / 2];
+        return g.0;
+    }
+    run.total_rests[i / 2]
+}
+
+// Number i of a run's 171.
 pub fn field_at(run: Run, i: usize) -> u64
     ensures { λ r. ⌜ r ≡ fieldAt run i ⌝ }
 {
@@ -89,7 +111,7 @@ pub fn field_at(run: Run, i: usize) -> u64
         return m.0;
     }
     if 141 <= i {
-        return 0;
+        return total_field(run, i - 141);
     }
     if i % 2 == 1 {
         let g = run.grams[(i - 21) / 2];

@@ -8,7 +8,6 @@ use native.Mathlib.Omega.{arith}
 use lib.ListN.{getD}
 use lib.Dec.{ltb, leb, eqb}
 use borrow.Author.Tests.{lt-ltb, lt-leb, le-leb, eq-eqb, ne-eqb, ltb-true, ltb-false}
-use Rattle.units.specs.declared.Grams.{Grams}
 use Rattle.units.specs.Grounds.{firstFit}
 use Rattle.classes.specs.Classes.{fuelOf, hasCold}
 use Rattle.classes.proofs.Classes.{x-below}
@@ -21,7 +20,8 @@ use Rattle.inventory.specs.Records.{recordGrounds, vehicleKm, shareOf, s
 use Rattle.inventory.specs.Order.{inOrder, gramsIn, restIn, sumAt, recordLimit}
 use Rattle.inventory.specs.Limits.{RecordLimits, XLimits, RunLimits}
 use Rattle.inventory.proofs.Records.{record-taken}
-use Rattle.inventory.specs.Adding.{billionths, factorOf, hotPart, xOf, coldRate, coldPart, partOf, partAt, slotAfter, kmOf, addGrounds, addNumber}
+use Rattle.inventory.proofs.Amounts.{amount-grams, amount-rest}
+use Rattle.inventory.specs.Adding.{factorOf, hotPart, xOf, coldRate, coldPart, partOf, partAt, slotAfter, kmOf, addGrounds, addNumber}
 
 -- ---- the number of an add
 
@@ -109,14 +109,11 @@ module _ (run : Run) (rec : Record) (fuel q : ℕ) (ef : fuel ≡ fuelOf (rec .c
   cold-slot j e = rw (slot-part 3 j (omega arith) e)
 
 -- a slot of another fuel keeps what it has
-grams-by : (g : Grams) (n : ℕ) → g .0 ≡ n → g ≡ record { 0 = n }
-grams-by g n p = let z : _≡_ {A = Grams} (record { 0 = g .0 }) (record { 0 = n }) = cc in z
-
 module _ (run : Run) (rec : Record) (lim : RunLimits run) (j : ℕ) (h : j < 60) (other : j / 20 ≡ fuelOf (rec .class) → ⊥) where
   pub kept-grams : getD (run .grams) j (record { 0 = 0 }) ≡ slotAfter run rec j .grams
-  unfolding slotAfter sumAt billionths
-  kept-grams = rw (at-other (run .x) rec j other) (grams-by _ _ (omega (arith, lim .rest-below j h)))
+  unfolding slotAfter sumAt
+  kept-grams = rw (at-other (run .x) rec j other) (amount-grams _ _ _ (omega arith) (lim .rest-below j h))
 
   pub kept-rest : restIn run j ≡ slotAfter run rec j .rest
-  unfolding slotAfter sumAt billionths
-  kept-rest = rw (at-other (run .x) rec j other) (omega (arith, lim .rest-below j h))
+  unfolding slotAfter sumAt
+  kept-rest = rw (at-other (run .x) rec j other) (amount-rest _ (getD (run .grams) j (record { 0 = 0 })) _ (omega arith) (lim .rest-below j h))

@@ -1,19 +1,23 @@
 -- A run without records: its sums and kilometres are 0, and it is in order under a head that opening takes. Assumes nothing.
-use mathlib.Core.Path.{_≡_, ap}
+use mathlib.Core.Path.{_≡_, refl, ap, subst}
 use mathlib.Core.Bool.{true}
 use mathlib.Core.List.{List}
 use Prim.Native.Nat.{ℕ, _≤_, _<_}
 use native.Mathlib.Omega.{arith}
+use Rattle.units.specs.Lists.{tab}
 use Rattle.units.proofs.Tab.{tab-at}
 use Rattle.classes.specs.Classes.{xCount}
 use Rattle.coldstart.specs.ColdStart.{coldX, coldValues, Climate}
 use Rattle.coldstart.proofs.ColdStart.{x-most}
 use Rattle.inventory.specs.declared.Head.{Head}
+use Rattle.inventory.specs.declared.Run.{Run}
 use Rattle.inventory.specs.Limits.{XLimits}
-use Rattle.inventory.specs.Order.{gramsIn, restIn, kmIn, sumAt, inOrder}
+use Rattle.inventory.specs.Order.{gramsIn, restIn, kmIn, sumAt, exactTotal, totalOk, inOrder}
+use Rattle.inventory.specs.Adding.{billionths, totalMade, withTotals}
 use Rattle.inventory.specs.Opening.{noKm, noGrams, noRest, emptyRun, freshRun, openNumber, openRun}
 use Rattle.inventory.proofs.Records.{climate, period-taken}
 use Rattle.inventory.proofs.Order.{order-by}
+use Rattle.inventory.proofs.Stored.{total-kept}
 
 module _ (trip : ℕ) (xs : List ℕ) where
   empty-rest : (j : ℕ) → j < 60 → restIn (emptyRun trip xs) j ≡ 0
@@ -30,11 +34,19 @@ module _ (trip : ℕ) (xs : List ℕ) where
   unfolding emptyRun
   empty-km fuel h = ap (λ v. v .0) (tab-at (record { 0 = 0 }) noKm 3 fuel h)
 
+  -- its totals are those of its sums
+  pub empty-totals : withTotals (emptyRun trip xs) ≡ emptyRun trip xs
+  unfolding withTotals emptyRun tab totalMade billionths exactTotal sumAt
+  empty-totals = refl
+
+  empty-total : (k : ℕ) → k < 15 → totalOk (emptyRun trip xs) k ≡ true
+  empty-total k h = subst (λ (r : Run). totalOk r k ≡ true) empty-totals (total-kept (emptyRun trip xs) k h)
+
   pub empty-order : 10 ≤ trip → trip ≤ 200 → XLimits xs → inOrder (emptyRun trip xs) ≡ true
   unfolding emptyRun
   empty-order low high x =
       order-by (emptyRun trip xs) low high (omega arith) x (λ j h. omega (arith, empty-rest j h)) (λ j h. omega (arith, empty-sum j h))
-      (λ f h. omega (arith, empty-km f h))
+      (λ f h. omega (arith, empty-km f h)) empty-total
 
 module _ (head : Head) (taken : openNumber head ≡ 0) where
   pub opened-is : openRun head ≡ freshRun head

@@ -1,4 +1,6 @@
 pub mod Order
+pub mod Amounts
+pub mod Stored
 pub mod Records
 pub mod Adding
 pub mod Totals

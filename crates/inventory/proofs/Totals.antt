@@ -2,7 +2,7 @@
 use mathlib.Core.Path.{_≡_, refl, ap, sym, _∙_}
 use mathlib.Core.Bool.{Bool, true, false, not, cond}
 use mathlib.Core.List.{List, [], _∷_}
-use Prim.Native.Nat.{ℕ, _+_, _*_, _-_, _/_, _≤_, _<_}
+use Prim.Native.Nat.{ℕ, _+_, _*_, _-_, _/_, _%_, _≤_, _<_}
 use native.Mathlib.Omega.{arith}
 use lib.Dec.{lit<, eqb}
 use Rattle.units.specs.declared.Refusal.{Refusal}
@@ -18,9 +18,10 @@ use Rattle.units.specs.Grounds.{firstFit, outside, ground}
 use Rattle.units.specs.Rounding.{halfUp}
 use Rattle.units.proofs.Rounds.{half-up-high, half-up-low}
 use Rattle.inventory.specs.declared.Run.{Run}
-use Rattle.inventory.specs.Order.{inOrder, gramsIn, restIn, sumAt}
-use Rattle.inventory.proofs.Order.{sum-most, count-of}
-use Rattle.inventory.specs.Printed.{place, kindPlace, printedKind, exactTotal, printedTotal, totalGrounds, Answer, answered, printedAnswer}
+use Rattle.inventory.specs.Limits.{TotalLimits}
+use Rattle.inventory.specs.Order.{inOrder, sumAt, place, exactTotal, totalGramsIn, totalRestIn}
+use Rattle.inventory.proofs.Order.{sum-at-most, exact-most}
+use Rattle.inventory.specs.Printed.{kindPlace, printedKind, printedTotal, totalGrounds, Answer, answered, printedAnswer}
 use Rattle.inventory.specs.declared.Kind.{Kind}
 use Rattle.inventory.specs.declared.Kind.the-variants as kinds
 use Rattle.inventory.specs.declared.Printed.{Printed}
@@ -31,38 +32,24 @@ pub half-grams : (g r : ℕ) → g + (r + 500000000) / 1000000000 ≡ halfUp (g 
 unfolding halfUp
 half-grams g r = omega arith
 
-pub total-grams : (a b c d p q r s : ℕ)
-    → a + b + c + d + (p + q + r + s + 500000000) / 1000000000
-    ≡ halfUp (a * 1000000000 + p + (b * 1000000000 + q) + (c * 1000000000 + r) + (d * 1000000000 + s)) 1000000000
-unfolding halfUp
-total-grams a b c d p q r s = omega arith
-
--- the printed total from its four sums
-pub total-made : (run : Run) (fuel quantity j : ℕ) → j ≡ fuel * 20 + quantity * 4
-    → gramsIn run j + gramsIn run (j + 1) + gramsIn run (j + 2) + gramsIn run (j + 3)
-    + (restIn run j + restIn run (j + 1) + restIn run (j + 2) + restIn run (j + 3) + 500000000) / 1000000000
-    ≡ printedTotal run fuel quantity
-unfolding printedTotal exactTotal sumAt
-total-made run fuel quantity j e =
-    let a : place fuel quantity 0 ≡ j = omega arith in
-    let b : place fuel quantity 1 ≡ j + 1 = omega arith in
-    let c : place fuel quantity 2 ≡ j + 2 = omega arith in
-    let d : place fuel quantity 3 ≡ j + 3 = omega arith in
-    rw (a, b, c, d) (total-grams _ _ _ _ _ _ _ _)
+-- the printed total from the stored one
+pub total-made : (run : Run) → TotalLimits run → (fuel quantity k : ℕ) → fuel < 3 → quantity < 5 → k ≡ fuel * 5 + quantity
+    → totalGramsIn run k + (totalRestIn run k + 500000000) / 1000000000 ≡ printedTotal run fuel quantity
+unfolding printedTotal
+total-made run lim fuel quantity k a b e =
+    let f : k / 5 ≡ fuel = omega arith in
+    let q : k % 5 ≡ quantity = omega arith in
+    half-grams _ _ ∙ ap (λ n. halfUp n 1000000000) (rw (f, q) at (lim .exact k (omega arith)))
 
 -- in a run in order a printed kind is at most 5 × 10^15 g, and a printed total at most 2 × 10^16 g
-sum-at-most : (run : Run) → inOrder run ≡ true → (j : ℕ) → j < 60 → sumAt run j ≤ 5000000000000000000000000
-sum-at-most run o j h = omega (arith, sum-most run o j h, count-of run o)
-
 pub kind-most : (run : Run) → inOrder run ≡ true → (fuel quantity kind : ℕ) → fuel < 3 → quantity < 5 → kind < 4
     → printedKind run fuel quantity kind ≤ 5000000000000000
 unfolding printedKind halfUp
 kind-most run o fuel quantity kind a b d = omega (arith, sum-at-most run o (place fuel quantity kind) (omega arith))
 
 pub total-most : (run : Run) → inOrder run ≡ true → (fuel quantity : ℕ) → fuel < 3 → quantity < 5 → printedTotal run fuel quantity ≤ 20000000000000000
-unfolding printedTotal exactTotal halfUp
-total-most run o fuel quantity a b =
-    omega (arith, sum-at-most run o (place fuel quantity 0) (omega arith), sum-at-most run o (place fuel quantity 1) (omega arith), sum-at-most run o (place fuel quantity 2) (omega arith), sum-at-most run o (place fuel quantity 3) (omega arith))
+unfolding printedTotal halfUp
+total-most run o fuel quantity a b = omega (arith, exact-most run o fuel quantity a b)
 
 -- a kind is one of four
 pub kind-below : (kind : Kind) → kindPlace kind < 4

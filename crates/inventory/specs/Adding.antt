@@ -16,11 +16,35 @@ use Rattle.inventory.specs.declared.Record.{Record}
 use Rattle.inventory.specs.declared.Run.{Run}
 use Rattle.inventory.specs.declared.Amount.{Amount}
 use Rattle.inventory.specs.Records.{recordGrounds, vehicleKm, shareOf, speedOf}
-use Rattle.inventory.specs.Order.{inOrder, sumAt, kmIn, recordLimit}
+use Rattle.inventory.specs.Order.{inOrder, sumAt, exactTotal, kmIn, recordLimit}
 
 -- n billionths of a gram, as whole grams and a rest
 unfoldable pub billionths : ℕ → Amount
 billionths n = record { grams = record { 0 = n / 1000000000 }; rest = n % 1000000000 }
+
+-- the total k = fuel × 5 + quantity of a run's sums: the exact sum of its four kinds
+unfoldable pub totalMade : Run → ℕ → Amount
+totalMade run k = billionths (exactTotal run (k / 5) (k % 5))
+
+abbrev pub totalGramsMade : Run → ℕ → Grams
+totalGramsMade run k = totalMade run k .grams
+
+abbrev pub totalRestMade : Run → ℕ → ℕ
+totalRestMade run k = totalMade run k .rest
+
+-- the run with the totals of its sums
+unfoldable pub withTotals : Run → Run
+withTotals run =
+    record {
+      trip = run .trip;
+      x = run .x;
+      count = run .count;
+      km = run .km;
+      grams = run .grams;
+      rests = run .rests;
+      «total_grams» = tab (totalGramsMade run) 15;
+      «total_rests» = tab (totalRestMade run) 15;
+    }
 
 -- the specification's E of a record on a road
 abbrev pub factorOf : Record → ℕ → ℕ → ℕ
@@ -68,9 +92,9 @@ kmOf rec fuel = cond (eqb fuel (fuelOf (rec .class))) (vehicleKm rec) 0
 unfoldable pub kmAfter : Run → Record → ℕ → VehicleKm
 kmAfter run rec fuel = record { 0 = kmIn run fuel + kmOf rec fuel }
 
--- the run with a record in it
-unfoldable pub runWith : Run → Record → Run
-runWith run rec =
+-- a run with a record in its count, kilometres and sums; its totals are still those of before
+unfoldable pub raised : Run → Record → Run
+raised run rec =
     record {
       trip = run .trip;
       x = run .x;
@@ -78,7 +102,13 @@ runWith run rec =
       km = tab (kmAfter run rec) 3;
       grams = tab (gramsAfter run rec) 60;
       rests = tab (restAfter run rec) 60;
+      «total_grams» = run .«total_grams»;
+      «total_rests» = run .«total_rests»;
     }
+
+-- the run with a record in it
+unfoldable pub runWith : Run → Record → Run
+runWith run rec = withTotals (raised run rec)
 
 -- the grounds of adding to a run in order with so many records: 3 to 8, then 9
 abbrev pub orderedGrounds : ℕ → Record → List Ground

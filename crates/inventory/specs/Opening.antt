@@ -25,7 +25,17 @@ noRest k = 0
 
 -- a run without records
 unfoldable pub emptyRun : ℕ → List ℕ → Run
-emptyRun trip xs = record { trip = trip; x = xs; count = 0; km = tab noKm 3; grams = tab noGrams 60; rests = tab noRest 60 }
+emptyRun trip xs =
+    record {
+      trip = trip;
+      x = xs;
+      count = 0;
+      km = tab noKm 3;
+      grams = tab noGrams 60;
+      rests = tab noRest 60;
+      «total_grams» = tab noGrams 15;
+      «total_rests» = tab noRest 15;
+    }
 
 -- the run of zeros
 unfoldable pub zeroRun : Run

@@ -1,6 +1,6 @@
 -- Printed kinds and totals (SPECIFICATION, "The run").
 -- Assumes nothing.
-use Prim.Native.Nat.{ℕ, _+_, _*_, _-_}
+use Prim.Native.Nat.{ℕ, _-_}
 use mathlib.Core.Bool.{not, cond}
 use mathlib.Core.List.{List, [], _∷_}
 use lib.Dec.{eqb}
@@ -12,7 +12,7 @@ use Rattle.inventory.specs.declared.Kind.{Kind}
 use Rattle.inventory.specs.declared.Kind.the-variants.{Urban, Rural, Highway, Cold}
 use Rattle.inventory.specs.declared.Printed.{Printed}
 use Rattle.inventory.specs.declared.Printed.the-variants.{Given, Refused}
-use Rattle.inventory.specs.Order.{inOrder, sumAt}
+use Rattle.inventory.specs.Order.{inOrder, sumAt, place, exactTotal}
 
 -- the place of a kind among the four
 abbrev pub kindPlace : Kind → ℕ
@@ -21,18 +21,9 @@ kindPlace Rural = 1
 kindPlace Highway = 2
 kindPlace Cold = 3
 
--- the place of a sum; fuel and quantity count from 0 here
-abbrev pub place : ℕ → ℕ → ℕ → ℕ
-place fuel quantity kind = fuel * 20 + quantity * 4 + kind
-
--- a printed kind: its sum, half up to grams
+-- a printed kind: its sum, half up to grams; fuel and quantity count from 0 here
 unfoldable pub printedKind : Run → ℕ → ℕ → ℕ → ℕ
 printedKind run fuel quantity kind = halfUp (sumAt run (place fuel quantity kind)) 1000000000
-
--- the exact sum of the four kinds, in billionths of a gram
-unfoldable pub exactTotal : Run → ℕ → ℕ → ℕ
-exactTotal run fuel quantity =
-    sumAt run (place fuel quantity 0) + sumAt run (place fuel quantity 1) + sumAt run (place fuel quantity 2) + sumAt run (place fuel quantity 3)
 
 -- a printed total: the exact sum of its four kinds, half up to grams
 unfoldable pub printedTotal : Run → ℕ → ℕ → ℕ

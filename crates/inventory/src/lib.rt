@@ -41,7 +41,8 @@ pub struct Record {
 }
 
 // A run: the head's trip length and values X (fuel × 5 + quantity, then CO of class 3), the record count, the kilometres
-// of each fuel, and 60 sums (fuel × 20 + quantity × 4 + kind) as whole grams and a rest in billionths.
+// of each fuel, 60 sums (fuel × 20 + quantity × 4 + kind) as whole grams and a rest in billionths, and the exact total of each
+// fuel and quantity (fuel × 5 + quantity) in the same way.
 #[repr(C)]
 pub struct Run {
     pub trip: u64,
@@ -50,6 +51,8 @@ pub struct Run {
     pub km: [VehicleKm; 3],
     pub grams: [Grams; 60],
     pub rests: [u64; 60],
+    pub total_grams: [Grams; 15],
+    pub total_rests: [u64; 15],
 }
 
 // Whole grams, and a rest in billionths of a gram.

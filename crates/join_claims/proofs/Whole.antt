@@ -2,7 +2,7 @@
 use mathlib.Core.Path.{_≡_, refl, ap, sym, _∙_}
 use mathlib.Core.Bool.{Bool, true, false, not, cond, _||_}
 use mathlib.Core.List.{List}
-use Prim.Native.Nat.{ℕ, suc, _+_, _≤_, _<_}
+use Prim.Native.Nat.{ℕ, suc, _+_, _/_, _%_, _≤_, _<_}
 use native.Mathlib.Nat.{add-comm, add-assoc}
 use native.Mathlib.Omega.{arith}
 use borrow.Author.Tests.{ne-eqb}
@@ -15,20 +15,20 @@ use Rattle.units.proofs.Tab.{tab-length, tab-alike, tab-of}
 use Rattle.inventory.specs.declared.Head.{Head}
 use Rattle.inventory.specs.declared.Run.{Run}
 use Rattle.inventory.specs.Limits.{Shaped}
-use Rattle.inventory.specs.Order.{inOrder, sameHead, restIn, kmIn, sumAt}
-use Rattle.inventory.specs.Adding.{billionths}
+use Rattle.inventory.specs.Order.{inOrder, sameHead, restIn, kmIn, sumAt, storedTotal}
+use Rattle.inventory.specs.Adding.{billionths, withTotals}
 use Rattle.inventory.specs.Opening.{emptyRun, freshRun, openNumber, openRun}
 use Rattle.inventory.proofs.Fresh.{empty-sum, empty-km, opened-is, fresh-order}
 use Rattle.inventory.proofs.Heads.{trip-same, x-same, head-back, head-on, head-either}
-use Rattle.inventory.proofs.Order.{rest-of, count-of}
-use Rattle.inventory.proofs.Runs.{by-parts, as-km, as-grams, shaped-opened}
+use Rattle.inventory.proofs.Order.{rest-of, count-of, total-of, total-limits}
+use Rattle.inventory.proofs.Runs.{totals-again, totals-by, as-km, as-grams, shaped-opened}
 use Rattle.areas.specs.Areas.{countsOf}
 use Rattle.areas.specs.Numbers.{areasOf}
 use Rattle.areas.specs.Calls.{numbersInOrder, areaRun}
 use Rattle.areas.proofs.Adding.{run-given}
 use Rattle.areas.proofs.Order.{run-ok, head-ok, records-most, areas-ok}
-use Rattle.joins.specs.Joining.{joinGrounds, joinNumber, slotJoined, gramsJoined, restJoined, kmJoined, joined, joinRun, joinedTo}
-use Rattle.joins.proofs.Laws.{counted, good-join, Taken, taken, run-kept, run-joined, km-in, sum-in, order-joined, order-kept, head-joined, all-taken}
+use Rattle.joins.specs.Joining.{joinGrounds, joinNumber, slotJoined, gramsJoined, restJoined, kmJoined, addedUp, joined, joinRun, joinedTo}
+use Rattle.joins.proofs.Laws.{counted, good-join, Taken, taken, run-kept, run-joined, km-in, sum-in, exact-in, order-joined, order-kept, head-joined, all-taken}
 use Rattle.join_claims.specs.Claim.{Both, Associates, Neutral, JoinClaim}
 
 -- ---- commutative
@@ -47,9 +47,9 @@ same-number a b = rw (head-either a b, add-comm (a .count) (b .count)) (exchange
 alike : (a b c d : Run) → a .trip ≡ c .trip → a .x ≡ c .x → a .count + b .count ≡ c .count + d .count
     → ((fuel : ℕ) → fuel < 3 → kmIn a fuel + kmIn b fuel ≡ kmIn c fuel + kmIn d fuel)
     → ((j : ℕ) → j < 60 → sumAt a j + sumAt b j ≡ sumAt c j + sumAt d j) → joined a b ≡ joined c d
-unfolding joined kmJoined slotJoined
+unfolding joined addedUp kmJoined slotJoined
 alike a b c d t x n k s =
-    by-parts (joined a b) (joined c d) t x n
+    totals-by (addedUp a b) (addedUp c d) t x n
     (tab-alike (kmJoined a b) (kmJoined c d) 3 (λ f h. ap (λ m. record { 0 = m }) (k f h)))
     (tab-alike (gramsJoined a b) (gramsJoined c d) 60 (λ j h. ap (λ m. billionths m .grams) (s j h)))
     (tab-alike (restJoined a b) (restJoined c d) 60 (λ j h. ap (λ m. billionths m .rest) (s j h)))
@@ -78,14 +78,14 @@ module _ (a b c : Run) (left : Taken a b) (right : Taken b c) where
   head-right = head-back (joined b c) a (head-joined b c a (head-back a b (left .same)))
 
   one-number : joinNumber (joined a b) c ≡ joinNumber a (joined b c)
-  unfolding joined
+  unfolding joined withTotals addedUp
   one-number =
       sym (counted (joined a b) c order-left (right .second) head-left)
       ∙ ap (λ n. cond (ltb 5000 n) 22 0) (add-assoc (a .count) (b .count) (c .count))
       ∙ counted a (joined b c) (left .first) order-right head-right
 
   one-run : joined (joined a b) c ≡ joined a (joined b c)
-  unfolding joined
+  unfolding joined withTotals addedUp
   one-run =
       alike (joined a b) c a (joined b c) refl refl (add-assoc (a .count) (b .count) (c .count))
       (λ f h. omega (arith, km-in a b f h, km-in b c f h)) (λ j h. omega (arith, sum-in a b j h, sum-in b c j h))
@@ -120,16 +120,17 @@ module _ (run : Run) (shaped : Shaped run) (order : inOrder run ≡ true) (trip 
   count-kept = omega arith
 
   empty-right : joined run (emptyRun trip xs) ≡ run
-  unfolding joined kmJoined slotJoined
+  unfolding joined addedUp kmJoined slotJoined
   empty-right =
       let km : (f : ℕ) → f < 3 → kmIn run f + kmIn (emptyRun trip xs) f ≡ kmIn run f = λ f h. omega (arith, empty-km trip xs f h) in
       let sum : (j : ℕ) → j < 60 → sumAt run j + sumAt (emptyRun trip xs) j ≡ sumAt run j = λ j h. omega (arith, empty-sum trip xs j h) in
-      by-parts (joined run (emptyRun trip xs)) run refl refl count-kept
+      totals-by (addedUp run (emptyRun trip xs)) run refl refl count-kept
       (tab-of (record { 0 = 0 }) (kmJoined run (emptyRun trip xs)) (run .km) 3 (shaped .kms) (λ f h. as-km (km f h)))
       (tab-of (record { 0 = 0 }) (gramsJoined run (emptyRun trip xs)) (run .grams) 60 (shaped .grams)
       (λ j h. ap (λ n. billionths n .grams) (sum j h) ∙ own-grams run j (rest-of run order j h)))
       (tab-of 0 (restJoined run (emptyRun trip xs)) (run .rests) 60 (shaped .rests)
       (λ j h. ap (λ n. billionths n .rest) (sum j h) ∙ own-rest run j (rest-of run order j h)))
+      ∙ totals-again run (total-of run order) shaped
 
 module _ (run : Run) (head : Head) (shaped : Shaped run) (order : inOrder run ≡ true) (opens : openNumber head ≡ 0) (same : sameHead run (openRun head) ≡ true) where
   fresh-right : joined run (openRun head) ≡ run
@@ -167,16 +168,37 @@ numbers a b = either (not (inOrder a)) (not (inOrder b)) _
 refused : (a b : Run) → (joinNumber a b ≡ 0 → ⊥) → joinRun a b ≡ a
 refused a b h = sym (run-kept a b (joinNumber a b) refl (ne-eqb _ 0 h))
 
+stored-in : (a b : Run) → joinNumber a b ≡ 0 → (k : ℕ) → k < 15 → storedTotal (joined a b) k ≡ storedTotal a k + storedTotal b k
+stored-in a b z k h =
+    let t = taken a b z in
+    omega (
+      arith,
+      total-limits (joined a b) (order-joined a b (t .first) (t .second) (t .few)) .exact k h,
+      total-limits a (t .first) .exact k h,
+      total-limits b (t .second) .exact k h,
+      exact-in a b (k / 5) (k % 5) (omega arith) (omega arith),
+    )
+
 both : (a b : Run) → joinNumber a b ≡ 0 → Both a b (joinRun a b)
-unfolding joined
-both a b z = rw (← run-joined a b z) (record { trip = refl; x = refl; count = refl; km = km-in a b; sums = sum-in a b })
+unfolding joined withTotals addedUp
+both a b z =
+    rw (← run-joined a b z)
+    (record { trip = refl; x = refl; count = refl; km = km-in a b; sums = sum-in a b; totals = stored-in a b z })
 
 shaped-join : (a b : Run) → Shaped a → Shaped (joinRun a b)
-unfolding joinRun joined
+unfolding joinRun joined withTotals addedUp
 shaped-join a b s = by (eqb (joinNumber a b) 0)
   where
     by : (t : Bool) → Shaped (cond t (joined a b) a)
-    by true = record { xs = s .xs; kms = tab-length (kmJoined a b) 3; grams = tab-length (gramsJoined a b) 60; rests = tab-length (restJoined a b) 60 }
+    by true =
+        record {
+          xs = s .xs;
+          kms = tab-length (kmJoined a b) 3;
+          grams = tab-length (gramsJoined a b) 60;
+          rests = tab-length (restJoined a b) 60;
+          total-grams = tab-length _ 15;
+          total-rests = tab-length _ 15;
+        }
     by false = s
 
 -- ---- the runs of areas

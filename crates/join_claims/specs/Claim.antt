@@ -10,18 +10,20 @@ use Rattle.units.specs.Lists.{sumTo}
 use Rattle.inventory.specs.declared.Head.{Head}
 use Rattle.inventory.specs.declared.Run.{Run}
 use Rattle.inventory.specs.Limits.{Shaped}
-use Rattle.inventory.specs.Order.{inOrder, sameHead, kmIn, sumAt}
+use Rattle.inventory.specs.Order.{inOrder, sameHead, kmIn, sumAt, storedTotal}
 use Rattle.inventory.specs.Opening.{openNumber, openRun}
 use Rattle.areas.specs.Calls.{numbersInOrder, areaRun}
 use Rattle.joins.specs.Joining.{joinNumber, joinRun, joinedTo}
 
--- the run of two runs: the L and X of the first, and count, kilometres and each of the 60 sums (billionths of a gram) added up
+-- the run of two runs: the L and X of the first, and count, kilometres, each of the 60 sums and each of the 15 totals (billionths of a
+-- gram) added up
 pub record Both (a b run : Run) : Type 0 where
   pub trip : run .trip ≡ a .trip
   pub x : run .x ≡ a .x
   pub count : run .count ≡ a .count + b .count
   pub km : (fuel : ℕ) → fuel < 3 → kmIn run fuel ≡ kmIn a fuel + kmIn b fuel
   pub sums : (j : ℕ) → j < 60 → sumAt run j ≡ sumAt a j + sumAt b j
+  pub totals : (k : ℕ) → k < 15 → storedTotal run k ≡ storedTotal a k + storedTotal b k
 
 -- (a · b) · c against a · (b · c)
 pub record Associates (a b c : Run) : Type 0 where

@@ -32,7 +32,7 @@ fn print_answer(p: Printed) {
 // Every number of a run.
 fn print_fields(run: Run) {
     let mut i: usize = 0;
-    while i < 141 {
+    while i < 171 {
         print(harness_runs::field_at(run, i));
         i += 1;
     }
@@ -332,13 +332,13 @@ fn lines(b: &[u8], numbers: &mut [u64]) {
 }
 
 // Room for the cases.
-fn space() -> [u8; 262144] {
-    [0; 262144]
+fn space() -> [u8; 524288] {
+    [0; 524288]
 }
 
 fn main() {
     let mut b = space();
-    let mut numbers = [0u64; 2257];
+    let mut numbers = [0u64; 2737];
     let n = io::read_full(0, &mut b);
     lines(&b[..n], &mut numbers);
 }

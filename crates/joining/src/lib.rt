@@ -1,36 +1,17 @@
 // Joining two runs into one.
 ghost use mathlib.Core.Path.{_≡_};
-ghost use Prim.Native.Nat.{_+_, _*_, _≤_, _<_};
 ghost use Rattle.units.specs.Refusals.{verdictNumber};
-ghost use Rattle.inventory.specs.Adding.{billionths};
-ghost use Rattle.inventory.specs.Limits.{RunLimits};
+ghost use Rattle.inventory.specs.Limits.{RunLimits, TotalLimits};
 ghost use Rattle.joins.specs.Joining.{joinNumber, joined, joinRun};
-use inventory::Amount;
 use inventory::Run;
 use joins::Joined;
-use units::Grams;
 use units::VehicleKm;
 use units::Verdict;
-
-// Two sums of grams and billionths in one. The carry without a branch: s + 73,741,824 reaches 2^30 where s reaches 10^9.
-fn both(g: Grams, r: u64, h: Grams, t: u64) -> Amount
-    requires { ⌜ (g .0 ≤ 5000000000000000) × (r < 1000000000) ⌝ }
-    requires { ⌜ (h .0 ≤ 5000000000000000) × (t < 1000000000) ⌝ }
-    ensures { λ s. ⌜ s ≡ billionths (g .0 * 1000000000 + r + (h .0 * 1000000000 + t)) ⌝ }
-{
-    let s = r + t;
-    let carry = (s + 73741824) / 1073741824;
-    let whole = g.0 + h.0 + carry;
-    let rest = s - carry * 1000000000;
-    Amount {
-        grams: Grams(whole),
-        rest,
-    }
-}
 
 // The run of two runs in order: read from both, written to a copy of the first.
 fn joined_run(a: Run, b: Run) -> Run
     requires { ⌜ RunLimits a × RunLimits b ⌝ }
+    requires { ⌜ TotalLimits a × TotalLimits b ⌝ }
     ensures { λ r. ⌜ r ≡ joined a b ⌝ }
 {
     let mut r = a;
@@ -46,11 +27,24 @@ fn joined_run(a: Run, b: Run) -> Run
     }
     let mut j: usize = 0;
     while j < 60 {
-        let s = both(a.grams[j], a.rests[j], b.grams[j], b.rests[j]);
+        let s = run_totals::both(a.grams[j], a.rests[j], b.grams[j], b.rests[j]);
         let m = s.grams;
         r.grams[j] = m;
         r.rests[j] = s.rest;
         j += 1;
+    }
+    let mut n: usize = 0;
+    while n < 15 {
+        let s = run_totals::both(
+            a.total_grams[n],
+            a.total_rests[n],
+            b.total_grams[n],
+            b.total_rests[n],
+        );
+        let m = s.grams;
+        r.total_grams[n] = m;
+        r.total_rests[n] = s.rest;
+        n += 1;
     }
     r
 }

@@ -11,11 +11,13 @@ use Rattle.units.proofs.Grounds.{NoneFits, passed}
 use Rattle.units.proofs.Sums.{fewer-terms}
 use Rattle.units.proofs.Tab.{tab-at}
 use Rattle.inventory.specs.declared.Run.{Run}
-use Rattle.inventory.specs.Order.{inOrder, sameHead, gramsIn, restIn, kmIn, sumAt}
+use Rattle.inventory.specs.Order.{inOrder, sameHead, gramsIn, restIn, kmIn, sumAt, place, exactTotal}
+use Rattle.inventory.specs.Adding.{withTotals}
 use Rattle.inventory.proofs.Heads.{trip-same, x-same, head-by, head-self, head-back, head-on}
-use Rattle.inventory.proofs.Kept.{value, rest-small}
+use Rattle.inventory.proofs.Amounts.{value, rest-small}
+use Rattle.inventory.proofs.Stored.{total-kept}
 use Rattle.inventory.proofs.Order.{trip-of, x-of, sum-most, km-of, order-by}
-use Rattle.joins.specs.Joining.{joinGrounds, joinNumber, slotJoined, gramsJoined, restJoined, kmJoined, joined, joinRun, joinedTo}
+use Rattle.joins.specs.Joining.{joinGrounds, joinNumber, slotJoined, gramsJoined, restJoined, kmJoined, addedUp, joined, joinRun, joinedTo}
 
 -- ---- the number of a join, test by test
 
@@ -74,26 +76,32 @@ module _ (a b : Run) where
 
 module _ (a b : Run) where
   pub km-in : (fuel : ℕ) → fuel < 3 → kmIn (joined a b) fuel ≡ kmIn a fuel + kmIn b fuel
-  unfolding joined kmJoined
+  unfolding joined withTotals addedUp kmJoined
   km-in fuel h = ap (λ v. v .0) (tab-at (record { 0 = 0 }) (kmJoined a b) 3 fuel h)
 
   rest-in : (j : ℕ) → j < 60 → restIn (joined a b) j ≡ slotJoined a b j .rest
-  unfolding joined
+  unfolding joined withTotals addedUp
   rest-in j h = tab-at 0 (restJoined a b) 60 j h
 
   pub sum-in : (j : ℕ) → j < 60 → sumAt (joined a b) j ≡ sumAt a j + sumAt b j
-  unfolding sumAt joined slotJoined
+  unfolding sumAt joined withTotals addedUp slotJoined
   sum-in j h =
       let g : gramsIn (joined a b) j ≡ slotJoined a b j .grams .0 = ap (λ g. g .0) (tab-at (record { 0 = 0 }) (gramsJoined a b) 60 j h) in
       rw (g, rest-in j h) (value _)
 
+  -- and so are the totals
+  pub exact-in : (fuel quantity : ℕ) → fuel < 3 → quantity < 5 → exactTotal (joined a b) fuel quantity ≡ exactTotal a fuel quantity + exactTotal b fuel quantity
+  unfolding exactTotal
+  exact-in fuel quantity f q =
+      omega (arith, sum-in (place fuel quantity 0) (omega arith), sum-in (place fuel quantity 1) (omega arith), sum-in (place fuel quantity 2) (omega arith), sum-in (place fuel quantity 3) (omega arith))
+
   pub order-joined : inOrder a ≡ true → inOrder b ≡ true → a .count + b .count ≤ 5000 → inOrder (joined a b) ≡ true
-  unfolding joined slotJoined
+  unfolding joined withTotals addedUp slotJoined
   order-joined o p few =
       order-by (joined a b) (trip-of a o .0) (trip-of a o .1) few (x-of a o)
       (λ j h. rw (rest-in j h) (rest-small _))
       (λ j h. omega (arith, sum-in j h, sum-most a o j h, sum-most b p j h))
-      (λ f h. omega (arith, km-in f h, km-of a o f h, km-of b p f h))
+      (λ f h. omega (arith, km-in f h, km-of a o f h, km-of b p f h)) (total-kept _)
 
   -- a refused join is the first run: what both have, the joined has
   pub order-kept : inOrder a ≡ true → inOrder (joinRun a b) ≡ true
@@ -105,7 +113,7 @@ module _ (a b : Run) where
       by false e = o
 
   pub head-joined : (c : Run) → sameHead a c ≡ true → sameHead (joined a b) c ≡ true
-  unfolding joined
+  unfolding joined withTotals addedUp
   head-joined c s = head-by (joined a b) c (trip-same a c s) (x-same a c s)
 
 -- ---- many runs of one L and X, together at most 5,000 records: no join is refused
@@ -126,7 +134,7 @@ module _ (runs : ℕ → Run) (m : ℕ) (order : (i : ℕ) → i ≤ m → inOrd
       (head-on run (runs 0) (runs (suc n)) (head-back (runs 0) run (s .head)) (heads (suc n) (omega arith))) (omega (arith, most, s .count)))
 
   pub several : (n : ℕ) → n ≤ m → Several runs n (joinedTo runs n)
-  unfolding joinedTo sumTo joined
+  unfolding joinedTo sumTo joined withTotals addedUp
   several zero h = record { order = order 0 (omega arith); head = head-self (runs 0); count = omega arith }
   several (suc n) h =
       let s = several n (omega arith) in

@@ -11,7 +11,7 @@ use Rattle.units.specs.Grounds.{Ground, ground, firstFit}
 use Rattle.inventory.specs.declared.Run.{Run}
 use Rattle.inventory.specs.declared.Amount.{Amount}
 use Rattle.inventory.specs.Order.{inOrder, sameHead, sumAt, kmIn, recordLimit}
-use Rattle.inventory.specs.Adding.{billionths}
+use Rattle.inventory.specs.Adding.{billionths, withTotals}
 
 -- the grounds of joining, in their order: 16 of either run, 21, 22
 unfoldable pub joinGrounds : Run → Run → List Ground
@@ -36,9 +36,9 @@ restJoined a b j = slotJoined a b j .rest
 unfoldable pub kmJoined : Run → Run → ℕ → VehicleKm
 kmJoined a b fuel = record { 0 = kmIn a fuel + kmIn b fuel }
 
--- the run of both: one L and X, and count, kilometres and sums added up
-unfoldable pub joined : Run → Run → Run
-joined a b =
+-- one L and X, and count, kilometres and sums of both added up; the totals are still those of the first
+unfoldable pub addedUp : Run → Run → Run
+addedUp a b =
     record {
       trip = a .trip;
       x = a .x;
@@ -46,7 +46,13 @@ joined a b =
       km = tab (kmJoined a b) 3;
       grams = tab (gramsJoined a b) 60;
       rests = tab (restJoined a b) 60;
+      «total_grams» = a .«total_grams»;
+      «total_rests» = a .«total_rests»;
     }
+
+-- the run of both
+unfoldable pub joined : Run → Run → Run
+joined a b = withTotals (addedUp a b)
 
 -- the run that joining gives back: the first where the join is refused
 unfoldable pub joinRun : Run → Run → Run

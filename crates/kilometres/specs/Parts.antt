@@ -6,4 +6,4 @@ use Rattle.inventory.specs.declared.Run.{Run}
 
 -- a run with these kilometres
 abbrev pub ofKm : List VehicleKm → Run
-ofKm km = record { trip = 0; x = []; count = 0; km = km; grams = []; rests = [] }
+ofKm km = record { trip = 0; x = []; count = 0; km = km; grams = []; rests = []; «total_grams» = []; «total_rests» = [] }

@@ -18,8 +18,8 @@ use Rattle.units.proofs.Tests.{and-false}
 use Rattle.inventory.specs.declared.Run.{Run}
 use Rattle.inventory.specs.declared.Kind.{Kind}
 use Rattle.inventory.specs.declared.Kind.the-variants.{Urban, Rural, Highway, Cold}
-use Rattle.inventory.specs.Order.{inOrder, sumAt}
-use Rattle.inventory.specs.Printed.{place, kindPlace, printedKind, totalGrounds}
+use Rattle.inventory.specs.Order.{inOrder, sumAt, place}
+use Rattle.inventory.specs.Printed.{kindPlace, printedKind, totalGrounds}
 use Rattle.inventory.proofs.Totals.{kind-most}
 use Rattle.map.specs.declared.Row.{Row}
 use Rattle.map.specs.declared.RowAnswer.the-variants as rows

@@ -3,7 +3,7 @@ ghost use mathlib.Core.Path.{_≡_};
 ghost use Prim.Native.Nat.{_<_};
 ghost use Rattle.units.specs.Rounding.{halfUp};
 ghost use Rattle.inventory.specs.Order.{sumAt};
-ghost use Rattle.inventory.specs.Limits.{RunLimits};
+ghost use Rattle.inventory.specs.Limits.{RunLimits, TotalLimits};
 ghost use Rattle.inventory.specs.Printed.{printedTotal};
 use inventory::Run;
 use units::Grams;
@@ -18,17 +18,16 @@ pub fn kind_at(run: Run, j: usize) -> Grams
     Grams(g.0 + (run.rests[j] + 500000000) / 1000000000)
 }
 
-// The printed total of a run in order; fuel and quantity count from 0.
+// The printed total of a run in order, from the stored one; fuel and quantity count from 0.
 pub fn total_at(run: Run, fuel: usize, quantity: usize) -> Grams
-    requires { ⌜ RunLimits run ⌝ }
+    requires { ⌜ TotalLimits run ⌝ }
     requires { ⌜ (fuel < 3) × (quantity < 5) ⌝ }
     ensures { λ g. ⌜ g .0 ≡ printedTotal run fuel quantity ⌝ }
 {
-    let j = fuel * 20 + quantity * 4;
-    let a = run.grams[j];
-    let b = run.grams[j + 1];
-    let c = run.grams[j + 2];
-    let d = run.grams[j + 3];
-    let rest = run.rests[j] + run.rests[j + 1] + run.rests[j + 2] + run.rests[j + 3];
-    Grams(a.0 + b.0 + c.0 + d.0 + (rest + 500000000) / 1000000000)
+    // the totals alone are copied, not the run
+    let grams = run.total_grams;
+    let rests = run.total_rests;
+    let k = fuel * 5 + quantity;
+    let g = grams[k];
+    Grams(g.0 + (rests[k] + 500000000) / 1000000000)
 }

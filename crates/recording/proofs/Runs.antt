@@ -1,8 +1,8 @@
 -- The number and the run of opening and of an add, from the verdict on the head or the record. Assumes nothing.
-use mathlib.Core.Path.{_≡_, refl, sym, _∙_}
+use mathlib.Core.Path.{_≡_, refl, sym, _∙_, subst}
 use mathlib.Core.Bool.{Bool, true, false, cond}
 use mathlib.Core.List.{List, []}
-use Prim.Native.Nat.{ℕ, _≤_, _<_}
+use Prim.Native.Nat.{ℕ, _+_, _*_, _/_, _≤_, _<_}
 use native.Mathlib.Omega.{arith}
 use lib.Dec.{eqb, leb}
 use borrow.Author.Tests.{lt-leb, le-leb, leb-false, eqb-true, eqb-false}
@@ -12,15 +12,22 @@ use Rattle.units.specs.declared.Verdict.the-variants.{Taken, Refused}
 use Rattle.units.specs.Grounds.{firstFit}
 use Rattle.units.specs.Refusals.{refusalNumber, verdictNumber}
 use Rattle.units.proofs.Refusals.{number-positive, taken-number, refused-number}
+use Rattle.classes.specs.Classes.{fuelOf}
 use Rattle.coldstart.specs.ColdStart.{coldValues}
 use Rattle.inventory.specs.declared.Head.{Head}
 use Rattle.inventory.specs.declared.Record.{Record}
 use Rattle.inventory.specs.declared.Run.{Run}
 use Rattle.inventory.specs.Records.{headGrounds, recordGrounds}
 use Rattle.inventory.specs.Order.{inOrder}
+use Rattle.inventory.specs.Limits.{RecordLimits, RunLimits}
+use Rattle.inventory.proofs.Kept.{total-other, order-with}
+use Rattle.inventory.proofs.Order.{run-limits, total-of}
 use Rattle.inventory.proofs.Records.{record-then}
+use Rattle.inventory.proofs.Runs.{limits-before}
 use Rattle.inventory.specs.Opening.{emptyRun, freshRun, zeroRun, openNumber, openRun}
-use Rattle.inventory.specs.Adding.{runWith, orderedGrounds, addGrounds, addNumber, addRun}
+use Rattle.inventory.specs.Adding.{raised, runWith, orderedGrounds, addGrounds, addNumber, addRun}
+use Rattle.run_totals.specs.Between.{ofAmounts, KeptOutside}
+use Rattle.run_totals.proofs.Totals.{amounts-limits, amounts-kept}
 use Rattle.accuracy.specs.Claim.{runAfter}
 use Rattle.accuracy.proofs.Whole.{every-list}
 
@@ -48,7 +55,18 @@ module _ (head : Head) where
 
 -- the fresh run, made from the run of zeros
 pub fresh-made : (head : Head) (z : Run) (xs : List ℕ) → z ≡ zeroRun → xs ≡ coldValues (head .period) (head .trip) (head .temps)
-    → _≡_ {A = Run} (record { trip = head .trip; x = xs; count = z .count; km = z .km; grams = z .grams; rests = z .rests }) (freshRun head)
+    → _≡_ {A = Run}
+    (record {
+      trip = head .trip;
+      x = xs;
+      count = z .count;
+      km = z .km;
+      grams = z .grams;
+      rests = z .rests;
+      «total_grams» = z .«total_grams»;
+      «total_rests» = z .«total_rests»;
+    })
+    (freshRun head)
 unfolding freshRun zeroRun emptyRun
 fresh-made head z xs e h = rw (e, h)
 
@@ -98,6 +116,24 @@ module _ (run : Run) (rec : Record) where
       let o = order-by (inOrder run) refl z in
       let p = ready-by (eqb (firstFit (recordGrounds rec)) 0) (leb 5000 (run .count)) (firstFit (recordGrounds rec)) refl (sym (in-turn (run .count) rec) ∙ add-ordered o ∙ z) in
       record { order = o; own = p .0; room = leb-false 5000 (run .count) (p .1) }
+
+  -- what making the totals of the record's fuel asks for
+  module _ (order : inOrder run ≡ true) where
+    pub raised-limits : RecordLimits rec → run .count < 5000 → RunLimits (raised run rec)
+    unfolding runWith
+    raised-limits lim room = limits-before (raised run rec) (run-limits (runWith run rec) (order-with run rec order lim room))
+
+    pub others-kept : (fuel : ℕ) → fuel ≡ fuelOf (rec .class) → KeptOutside (raised run rec) (fuel * 5) (fuel * 5 + 5)
+    others-kept fuel e =
+        record { kept = λ k h o. total-other run rec k h (λ z. let y : k / 5 ≡ fuel = z ∙ sym e in o (omega arith) (omega arith)) (total-of run order k h) }
+
+    -- the same of its amounts alone
+    module _ (p : Run) (e : p ≡ raised run rec) where
+      pub amounts-in : RecordLimits rec → run .count < 5000 → RunLimits (ofAmounts (p .grams) (p .rests) (p .«total_grams») (p .«total_rests»))
+      amounts-in lim room = amounts-limits p _ _ (subst RunLimits (sym e) (raised-limits lim room))
+
+      pub amounts-others : (fuel : ℕ) → fuel ≡ fuelOf (rec .class) → KeptOutside (ofAmounts (p .grams) (p .rests) (p .«total_grams») (p .«total_rests»)) (fuel * 5) (fuel * 5 + 5)
+      amounts-others fuel f = amounts-kept p _ _ (subst (λ r. KeptOutside r (fuel * 5) (fuel * 5 + 5)) (sym e) (others-kept fuel f))
 
   pub run-kept : (n : ℕ) → n ≡ addNumber run rec → eqb n 0 ≡ false → run ≡ addRun run rec
   unfolding addRun

@@ -3,7 +3,9 @@ ghost use mathlib.Core.Path.{_≡_};
 ghost use Prim.Native.Nat.{_<_};
 ghost use Rattle.units.specs.Grounds.{firstFit};
 ghost use Rattle.units.specs.Refusals.{verdictNumber};
-ghost use Rattle.inventory.specs.Limits.{RecordLimits, RunLimits};
+ghost use mathlib.Core.Bool.{true};
+ghost use Rattle.inventory.specs.Order.{inOrder};
+ghost use Rattle.inventory.specs.Limits.{RecordLimits};
 ghost use Rattle.inventory.specs.Opening.{zeroRun, openNumber, openRun};
 ghost use Rattle.inventory.specs.Adding.{runWith, orderedGrounds, addNumber, addRun};
 ghost use Rattle.accuracy.specs.Claim.{EveryList};
@@ -12,6 +14,7 @@ use inventory::Head;
 use inventory::Opened;
 use inventory::Record;
 use inventory::Run;
+use run_totals::TotalAmounts;
 use sums::WholeGrams;
 use units::Grams;
 use units::Refusal;
@@ -29,6 +32,8 @@ pub fn zeros() -> Run
         km: [VehicleKm(0); 3],
         grams: [Grams(0); 60],
         rests: [0; 60],
+        total_grams: [Grams(0); 15],
+        total_rests: [0; 15],
     }
 }
 
@@ -77,10 +82,10 @@ pub fn add_verdict(count: u64, rec: Record) -> Verdict
     Verdict::Taken
 }
 
-// The run with a record that is taken.
+// The run with a record that is taken; of its totals only those of the record's fuel are made anew.
 pub fn run_with(run: Run, rec: Record) -> Run
     requires { ⌜ RecordLimits rec ⌝ }
-    requires { ⌜ RunLimits run × (run .count < 5000) ⌝ }
+    requires { ⌜ (inOrder run ≡ true) × (run .count < 5000) ⌝ }
     ensures { λ r. ⌜ r ≡ runWith run rec ⌝ }
 {
     let x = run.x;
@@ -90,6 +95,16 @@ pub fn run_with(run: Run, rec: Record) -> Run
     let grams = whole.sums;
     let old = run.km;
     let km = kilometres::kms_with(old, rec);
+    let total_grams = run.total_grams;
+    let total_rests = run.total_rests;
+    let before = TotalAmounts {
+        grams: total_grams,
+        rests: total_rests,
+    };
+    let fuel = classes::fuel_of(rec.class);
+    let totals = run_totals::totals_from(before, grams, &rests, fuel * 5, fuel * 5 + 5);
+    let total_grams = totals.grams;
+    let total_rests = totals.rests;
     Run {
         trip: run.trip,
         x,
@@ -97,6 +112,8 @@ pub fn run_with(run: Run, rec: Record) -> Run
         km,
         grams,
         rests,
+        total_grams,
+        total_rests,
     }
 }
 

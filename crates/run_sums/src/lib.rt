@@ -1,8 +1,9 @@
-// Whether the sums of a run are in order.
+// Whether the sums and totals of a run are in order.
 ghost use mathlib.Core.Path.{_≡_};
+ghost use mathlib.Core.Bool.{true};
 ghost use Prim.Native.Nat.{_≤_};
 ghost use Rattle.units.specs.Lists.{allBelow};
-ghost use Rattle.inventory.specs.Order.{sumWithin, sumOk};
+ghost use Rattle.inventory.specs.Order.{sumWithin, sumOk, sumsOk};
 ghost use Rattle.run_sums.specs.Marks.{restMark};
 use inventory::Run;
 use units::Grams;
@@ -49,11 +50,9 @@ pub fn rest_mark(rest: u64) -> u64
     rest / 2 + 36870912
 }
 
-// Whether the sums of a run without records are in order: all are 0, which two `or` over them tell without a branch; else the test
-// sum by sum says no.
-fn no_sums_ok(run: Run) -> bool
-    requires { ⌜ run .count ≡ 0 ⌝ }
-    ensures { λ b. ⌜ b ≡ allBelow (sumOk run) 60 ⌝ }
+// Where it says yes, every sum and every total is 0: two `or` over them tell it without a branch.
+fn nothing_in(run: Run) -> bool
+    ensures { λ b. ⌜ (b ≡ true → true ≡ sumsOk run) ⌝ }
 {
     let mut gram_bits: u64 = 0;
     let mut rest_bits: u64 = 0;
@@ -64,22 +63,24 @@ fn no_sums_ok(run: Run) -> bool
         rest_bits = rest_bits | run.rests[i];
         i += 1;
     }
-    if gram_bits == 0 {
-        if rest_bits == 0 {
-            return true;
-        }
+    let mut n: usize = 0;
+    while n < 15 {
+        let g = run.total_grams[n];
+        gram_bits = gram_bits | g.0;
+        rest_bits = rest_bits | run.total_rests[n];
+        n += 1;
     }
-    each_sum_ok(run)
+    if gram_bits == 0 {
+        return rest_bits == 0;
+    }
+    false
 }
 
 // Whether the sums are in order: sum by sum only where two `or` over all 60 do not decide, which have no branch and are fast.
-pub fn sums_ok(run: Run) -> bool
+fn kinds_ok(run: Run) -> bool
     requires { ⌜ run .count ≤ 5000 ⌝ }
     ensures { λ b. ⌜ b ≡ allBelow (sumOk run) 60 ⌝ }
 {
-    if run.count == 0 {
-        return no_sums_ok(run);
-    }
     let mut gram_bits: u64 = 0;
     let mut marks: u64 = 0;
     let mut j: usize = 0;
@@ -96,4 +97,21 @@ pub fn sums_ok(run: Run) -> bool
         }
     }
     each_sum_ok(run)
+}
+
+// Whether the sums and totals are in order; those of a run without records are 0. Each test is called at one place, so that the
+// compiler puts it there and reads the run where it lies.
+pub fn sums_ok(run: Run) -> bool
+    requires { ⌜ run .count ≤ 5000 ⌝ }
+    ensures { λ b. ⌜ b ≡ sumsOk run ⌝ }
+{
+    if run.count == 0 {
+        if nothing_in(run) {
+            return true;
+        }
+    }
+    if !kinds_ok(run) {
+        return false;
+    }
+    run_totals::totals_ok(run)
 }

@@ -32,7 +32,8 @@ fn sent_back(reason: Refusal, line: usize) -> Sheet
 }
 
 // The record lines from a place on, of which the first is line 2. A record line has 41 bytes, so no LF is searched for;
-// the run is known to be in order, so that is not tested again, and it is kept by its parts, so that it is not copied.
+// the run is known to be in order, so that is not tested again; it is kept by its parts, so that it is not copied, and its totals
+// are made once, at the end.
 fn read_records(s: &[u8], from: usize, first: Run) -> Sheet
     requires { ⌜ from ≤ length (now s) ⌝ }
     requires { ⌜ inOrder first ≡ true ⌝ }
@@ -74,15 +75,21 @@ fn read_records(s: &[u8], from: usize, first: Run) -> Sheet
         n += 1;
     }
     let grams = whole.sums;
+    let total_grams = first.total_grams;
+    let total_rests = first.total_rests;
+    let sums = Run {
+        trip,
+        x,
+        count,
+        km,
+        grams,
+        rests,
+        total_grams,
+        total_rests,
+    };
+    let run = run_totals::with_totals(sums);
     Sheet {
-        run: Run {
-            trip,
-            x,
-            count,
-            km,
-            grams,
-            rests,
-        },
+        run,
         verdict: Verdict::Taken,
         line: 0,
     }

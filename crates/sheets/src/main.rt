@@ -24,7 +24,7 @@ fn print_part(b: &[u8], from: usize, to: usize) {
 // Every number of a run.
 fn print_fields(run: Run) {
     let mut i: usize = 0;
-    while i < 141 {
+    while i < 171 {
         print(harness_runs::field_at(run, i));
         i += 1;
     }
@@ -44,7 +44,7 @@ fn print_totals(run: Run, fuel: u64) {
 fn is_zero(run: Run) -> bool {
     let mut zero = true;
     let mut i: usize = 0;
-    while i < 141 {
+    while i < 171 {
         if harness_runs::field_at(run, i) != 0 {
             zero = false;
         }

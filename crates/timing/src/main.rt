@@ -49,6 +49,18 @@ fn print_run(run: Run) {
     }
 }
 
+fn print_totals(run: Run) {
+    let mut k: usize = 0;
+    while k < 15 {
+        let g = run.total_grams[k];
+        io::print_decimal(1, g.0);
+        io::write_all(1, b" ");
+        io::print_decimal(1, run.total_rests[k]);
+        io::write_all(1, b"\n");
+        k += 1;
+    }
+}
+
 fn main() {
     let opened = recording::open_run(Head {
         trip: 120,
@@ -63,4 +75,5 @@ fn main() {
         n += 1;
     }
     print_run(run);
+    print_totals(run);
 }

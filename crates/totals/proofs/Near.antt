@@ -3,7 +3,8 @@ use Prim.Native.Nat.{ℕ, _+_}
 use native.Mathlib.Omega.{arith}
 use Rattle.units.specs.Rounding.{halfUp}
 use Rattle.inventory.specs.declared.Run.{Run}
-use Rattle.inventory.specs.Printed.{printedKind, exactTotal, printedTotal}
+use Rattle.inventory.specs.Order.{exactTotal}
+use Rattle.inventory.specs.Printed.{printedKind, printedTotal}
 use Rattle.totals.specs.Kinds.{KindsNear, KindsClaim}
 
 near : (run : Run) (fuel quantity : ℕ)

@@ -31,7 +31,7 @@ fn print_answer(p: Printed) {
 // Every number of a run.
 fn print_fields(run: Run) {
     let mut i: usize = 0;
-    while i < 141 {
+    while i < 171 {
         print(harness_runs::field_at(run, i));
         i += 1;
     }

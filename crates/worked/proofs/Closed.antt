@@ -12,9 +12,8 @@ use Rattle.classes.specs.Classes.{fuelOf}
 use Rattle.inventory.specs.declared.Head.{Head}
 use Rattle.inventory.specs.declared.Record.{Record}
 use Rattle.inventory.specs.Records.{vehicleKm}
-use Rattle.inventory.specs.Order.{sumAt}
+use Rattle.inventory.specs.Order.{sumAt, place, exactTotal}
 use Rattle.inventory.specs.Adding.{kmOf}
-use Rattle.inventory.specs.Printed.{place, exactTotal}
 use Rattle.accuracy.specs.Reference.{exactDenominator, exactOf, Reference, hasRoom, accepts, empty, withRecord, fed, referenceFrom, referenceOf, acceptedFrom, accepted}
 use Rattle.accuracy.proofs.Sums.{sumOf}
 use Rattle.accuracy.proofs.OneRecord.{brings}

@@ -18,10 +18,10 @@ use Rattle.calendar.specs.Periods.{periodGrounds, daysIn, daysOf}
 use Rattle.coldstart.specs.ColdStart.{temperatureOk, coldShare, slopes, coldRatio, coldExcess, monthProduct, coldSum, xFrom, coldX, coldFactor}
 use Rattle.inventory.specs.declared.Record.{Record}
 use Rattle.inventory.specs.Records.{temperaturesWrong, headGrounds, vehicleKm, sharesWrong, speedsWrong, recordGrounds}
-use Rattle.inventory.specs.Order.{sumAt, sumWithin, inOrder}
-use Rattle.inventory.specs.Adding.{billionths, hotPart, coldRate, coldPart, partOf, partAt, slotAfter, kmOf, kmAfter, runWith, addGrounds, addNumber, addRun}
+use Rattle.inventory.specs.Order.{sumAt, sumWithin, isAmount, inOrder, exactTotal}
+use Rattle.inventory.specs.Adding.{billionths, hotPart, coldRate, coldPart, partOf, partAt, slotAfter, kmOf, kmAfter, totalMade, withTotals, raised, runWith, addGrounds, addNumber, addRun}
 use Rattle.inventory.specs.Opening.{emptyRun, freshRun, openNumber, openRun}
-use Rattle.inventory.specs.Printed.{exactTotal, printedTotal, totalGrounds, answered, totalOf}
+use Rattle.inventory.specs.Printed.{printedTotal, totalGrounds, answered, totalOf}
 use Rattle.accuracy.specs.Reference.{acceptable, hasRoom, accepts, exactHot, exactCold, exactOf, empty, withRecord, fed, referenceFrom, referenceOf, exactDenominator, acceptedFrom, accepted}
 use Rattle.accuracy.specs.Conditions.{headX}
 use Rattle.accuracy.specs.Claim.{runAfter}
@@ -64,7 +64,7 @@ unfolding addNumber addGrounds firstFit recordGrounds outside vehicleKm sharesWr
 next-number n h = rw (every-list exampleHead taken .list (many n) .ordered, count-many n h)
 
 pub worked : WorkedClaim
-unfolding isLeap monthLength noDay dayNumber daysIn daysOf tab allBelow sumTo outside firstFit halfUp plus fuelOf hasCold hasOwnX betaReduction xPlace coefficients twoStroke quadratic curve emissionFactor temperatureOk coldShare slopes coldRatio coldExcess monthProduct coldSum xFrom coldX coldFactor periodGrounds temperaturesWrong headGrounds vehicleKm sharesWrong speedsWrong recordGrounds sumAt sumWithin inOrder billionths hotPart coldRate coldPart partOf partAt slotAfter kmOf kmAfter runWith addGrounds addNumber addRun emptyRun freshRun openNumber openRun exactTotal printedTotal totalGrounds answered totalOf acceptable hasRoom accepts exactHot exactCold exactOf empty withRecord fed referenceFrom referenceOf runAfter accepted kmSum brings exactIn
+unfolding isLeap monthLength noDay dayNumber daysIn daysOf tab allBelow sumTo outside firstFit halfUp plus fuelOf hasCold hasOwnX betaReduction xPlace coefficients twoStroke quadratic curve emissionFactor temperatureOk coldShare slopes coldRatio coldExcess monthProduct coldSum xFrom coldX coldFactor periodGrounds temperaturesWrong headGrounds vehicleKm sharesWrong speedsWrong recordGrounds sumAt sumWithin isAmount inOrder billionths hotPart coldRate coldPart partOf partAt slotAfter kmOf kmAfter totalMade withTotals raised runWith addGrounds addNumber addRun emptyRun freshRun openNumber openRun exactTotal printedTotal totalGrounds answered totalOf acceptable hasRoom accepts exactHot exactCold exactOf empty withRecord fed referenceFrom referenceOf runAfter accepted kmSum brings exactIn
 worked =
     let all : acceptedFrom 0 (many 5000) ≡ many 5000 = many-accepted 5000 0 (lit≤ tt) in
     record {

@@ -14,11 +14,11 @@ use Rattle.calendar.specs.Calendar.{isLeap, monthLength, noDay, dayNumber}
 use Rattle.calendar.specs.Periods.{periodGrounds, daysIn, daysOf}
 use Rattle.coldstart.specs.ColdStart.{temperatureOk, coldShare, slopes, coldRatio, coldExcess, monthProduct, coldSum, xFrom, coldX, coldFactor}
 use Rattle.inventory.specs.Records.{temperaturesWrong, headGrounds, vehicleKm, sharesWrong, speedsWrong, recordGrounds}
-use Rattle.inventory.specs.Order.{sumAt, sumWithin, inOrder, sameHead}
-use Rattle.inventory.specs.Adding.{billionths, hotPart, coldRate, coldPart, partOf, partAt, slotAfter, kmOf, kmAfter, runWith, addGrounds, addNumber, addRun}
+use Rattle.inventory.specs.Order.{sumAt, sumWithin, isAmount, inOrder, sameHead, exactTotal}
+use Rattle.inventory.specs.Adding.{billionths, hotPart, coldRate, coldPart, partOf, partAt, slotAfter, kmOf, kmAfter, totalMade, withTotals, raised, runWith, addGrounds, addNumber, addRun}
 use Rattle.inventory.specs.Opening.{emptyRun, freshRun, openNumber, openRun}
-use Rattle.inventory.specs.Printed.{exactTotal, printedTotal, totalGrounds, answered, totalOf}
-use Rattle.joins.specs.Joining.{joinGrounds, joinNumber, slotJoined, kmJoined, joined, joinRun}
+use Rattle.inventory.specs.Printed.{printedTotal, totalGrounds, answered, totalOf}
+use Rattle.joins.specs.Joining.{joinGrounds, joinNumber, slotJoined, kmJoined, addedUp, joined, joinRun}
 use Rattle.accuracy.specs.Conditions.{someXDiffers, headsDiffer, fullTogether, joiningNumber}
 use Rattle.accuracy.specs.Reference.{acceptable, hasRoom, accepts, exactHot, exactCold, exactOf, empty, withRecord, fed, referenceFrom, referenceOf}
 use Rattle.accuracy.specs.Claim.{runAfter}
@@ -45,7 +45,7 @@ many-taken : HeadsTaken tooMany
 many-taken = (taken, taken)
 
 pub worked-joins : WorkedJoinsClaim
-unfolding isLeap monthLength noDay dayNumber daysIn daysOf tab allBelow sumTo outside firstFit halfUp plus fuelOf hasCold hasOwnX betaReduction xPlace coefficients twoStroke quadratic curve emissionFactor temperatureOk coldShare slopes coldRatio coldExcess monthProduct coldSum xFrom coldX coldFactor periodGrounds temperaturesWrong headGrounds vehicleKm sharesWrong speedsWrong recordGrounds sumAt sumWithin inOrder sameHead billionths hotPart coldRate coldPart partOf partAt slotAfter kmOf kmAfter runWith addGrounds addNumber addRun emptyRun freshRun openNumber openRun exactTotal printedTotal totalGrounds answered totalOf joinGrounds joinNumber slotJoined kmJoined joined joinRun someXDiffers headsDiffer fullTogether joiningNumber acceptable hasRoom accepts exactHot exactCold exactOf empty withRecord fed referenceFrom referenceOf runAfter headOf historyRun together joinedReference historyReference
+unfolding isLeap monthLength noDay dayNumber daysIn daysOf tab allBelow sumTo outside firstFit halfUp plus fuelOf hasCold hasOwnX betaReduction xPlace coefficients twoStroke quadratic curve emissionFactor temperatureOk coldShare slopes coldRatio coldExcess monthProduct coldSum xFrom coldX coldFactor periodGrounds temperaturesWrong headGrounds vehicleKm sharesWrong speedsWrong recordGrounds sumAt sumWithin isAmount inOrder sameHead billionths hotPart coldRate coldPart partOf partAt slotAfter kmOf kmAfter totalMade withTotals raised runWith addGrounds addNumber addRun emptyRun freshRun openNumber openRun exactTotal printedTotal totalGrounds answered totalOf joinGrounds joinNumber slotJoined kmJoined addedUp joined joinRun someXDiffers headsDiffer fullTogether joiningNumber acceptable hasRoom accepts exactHot exactCold exactOf empty withRecord fed referenceFrom referenceOf runAfter headOf historyRun together joinedReference historyReference
 worked-joins =
     record {
       alike = refl;

@@ -10,7 +10,7 @@ use Rattle.area_opening.proofs.open_areas.Statement.{statement}
 use Rattle.area_opening.proofs.open_areas.Tie as tie
 
 abbrev Inv-loop : tie.InvT-loop
-Inv-loop numbers₀ opened run i₀ numbers i = (i ≤ 16) × (length numbers₀ ≡ 2257) × Spread run numbers₀ i numbers
+Inv-loop numbers₀ opened run i₀ numbers i = (i ≤ 16) × (length numbers₀ ≡ 2737) × Spread run numbers₀ i numbers
 
 abbrev μ-loop : tie.MeasureT-loop
 μ-loop numbers₀ opened run i₀ numbers i = 16 - i
@@ -44,7 +44,7 @@ slice-write-numbers : tie.Need-slice-write-numbers Inv-loop μ-loop
 slice-write-numbers c = omega (arith, c .before .loop .inv .2 .part .size)
 
 same-length : tie.Need-same-length Inv-loop μ-loop
-same-length c = let l = c .before .loop in omega (arith, l .inv .1, l .inv .2 .part .size, length-set (l .numbers) 2256 0)
+same-length c = let l = c .before .loop in omega (arith, l .inv .1, l .inv .2 .part .size, length-set (l .numbers) 2736 0)
 
 returns-2 : tie.Need-returns-2 Inv-loop μ-loop
 returns-2 c =

@@ -4,7 +4,6 @@ use native.Mathlib.Omega.{arith}
 use borrow.Author.Tests.{not-true, not-false}
 use Rattle.units.specs.Refusals.{verdictNumber, refusalNumber}
 use Rattle.units.proofs.Refusals.{number-positive, taken-number, refused-number}
-use Rattle.inventory.proofs.Order.{run-limits}
 use Rattle.inventory.proofs.Records.{record-limits}
 use Rattle.areas.proofs.Order.{size-is}
 use Rattle.areas.proofs.Adding.{add-unordered, add-no-area}
@@ -72,7 +71,7 @@ run-with-requires c κs =
     let a = c .before .before .before .before .before .before .before .before .before .before .before .args in let l = a .numbers .now in let o = sym (c .before .before .before .before .before .before .before .before .in-order .ensures) ∙ not-false _ (c .before .before .before .before .before .before .before .if1 .left) in
     let z = taken-number _ _ (c .enum-told .given .1) (c .before .before .area-verdict .ensures) in
     let e = c .before .before .before .before .run-at .ensures in
-    (record-limits _ (record-own _ _ _ z), (run-limits _ (run-order l (a .area) (a .rec) o (c .before .before .before .before .before .before .if2 .left) _ e), omega (arith, run-few l (a .area) (a .rec) o (c .before .before .before .before .before .before .if2 .left) _ e)))
+    (record-limits _ (record-own _ _ _ z), (run-order l (a .area) (a .rec) o (c .before .before .before .before .before .before .if2 .left) _ e, omega (arith, run-few l (a .area) (a .rec) o (c .before .before .before .before .before .before .if2 .left) _ e)))
 
 put-run-requires : tie.Need-put-run-requires
 put-run-requires c κs =

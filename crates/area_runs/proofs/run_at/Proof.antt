@@ -34,24 +34,44 @@ slice-aggregate-read-numbers-2 c = search needs
 read-numbers-requires-2 : tie.Need-read-numbers-requires-2
 read-numbers-requires-2 c κs = search needs
 
-mul-t8 : tie.Need-mul-t8
-mul-t8 c = search needs
+add-total-grams-at : tie.Need-add-total-grams-at
+add-total-grams-at c = search needs
 
-shared-slice-read-t14 : tie.Need-shared-slice-read-t14
-shared-slice-read-t14 c = search needs
+total-grams-at-requires : tie.Need-total-grams-at-requires
+total-grams-at-requires c κs = search needs
 
-add-t16 : tie.Need-add-t16
-add-t16 c = search needs
+add-read-numbers-3 : tie.Need-add-read-numbers-3
+add-read-numbers-3 c = search needs
 
-mul-t17 : tie.Need-mul-t17
-mul-t17 c = search needs
+slice-aggregate-read-numbers-3 : tie.Need-slice-aggregate-read-numbers-3
+slice-aggregate-read-numbers-3 c = search needs
 
-shared-slice-read-t19 : tie.Need-shared-slice-read-t19
-shared-slice-read-t19 c = search needs
+read-numbers-requires-3 : tie.Need-read-numbers-requires-3
+read-numbers-requires-3 c κs = search needs
+
+mul-t10 : tie.Need-mul-t10
+mul-t10 c = search needs
+
+shared-slice-read-t18 : tie.Need-shared-slice-read-t18
+shared-slice-read-t18 c = search needs
+
+add-t20 : tie.Need-add-t20
+add-t20 c = search needs
+
+mul-t21 : tie.Need-mul-t21
+mul-t21 c = search needs
+
+shared-slice-read-t23 : tie.Need-shared-slice-read-t23
+shared-slice-read-t23 c = search needs
 
 returns : tie.Need-returns
 unfolding runAt
-returns c = rw (c .before .before .before .before .before .before .before .before .read-numbers .ensures, c .before .before .before .before .before .before .kms-at .ensures, c .before .before .before .before .before .grams-at .ensures, c .before .before .before .read-numbers2 .ensures)
+returns c =
+    let t = c .before .before .before in
+    let g = t .before .before in
+    let r = g .before .before in
+    let s = r .before .before in
+    rw (s .before .before .before .read-numbers .ensures, s .before .kms-at .ensures, s .grams-at .ensures, r .read-numbers2 .ensures, g .total-grams-at .ensures, t .read-numbers3 .ensures)
 
 pub run-at-spec : {M : Type 1} → statement M
 run-at-spec =
@@ -67,9 +87,14 @@ run-at-spec =
     add-read-numbers-2
     slice-aggregate-read-numbers-2
     read-numbers-requires-2
-    mul-t8
-    shared-slice-read-t14
-    add-t16
-    mul-t17
-    shared-slice-read-t19
+    add-total-grams-at
+    total-grams-at-requires
+    add-read-numbers-3
+    slice-aggregate-read-numbers-3
+    read-numbers-requires-3
+    mul-t10
+    shared-slice-read-t18
+    add-t20
+    mul-t21
+    shared-slice-read-t23
     returns)

@@ -34,6 +34,12 @@ print-sums-requires c κs = search needs
 print-sums-requires-2 : tie.Need-print-sums-requires-2 Inv-loop μ-loop
 print-sums-requires-2 c κs = search needs
 
+print-totals-requires : tie.Need-print-totals-requires Inv-loop μ-loop
+print-totals-requires c κs = search needs
+
+print-totals-requires-2 : tie.Need-print-totals-requires-2 Inv-loop μ-loop
+print-totals-requires-2 c κs = search needs
+
 returns : tie.Need-returns Inv-loop μ-loop
 returns c = search needs
 
@@ -51,4 +57,6 @@ print-run-spec =
     loop-again
     print-sums-requires
     print-sums-requires-2
+    print-totals-requires
+    print-totals-requires-2
     returns)

@@ -3,7 +3,7 @@ use mathlib.Core.Path.{sym, ap, _∙_}
 use Prim.Native.Nat.{_-_}
 use native.Mathlib.Omega.{arith}
 use Rattle.units.proofs.Refusals.{taken-number}
-use Rattle.inventory.proofs.Order.{run-limits}
+use Rattle.inventory.proofs.Order.{total-limits}
 use Rattle.inventory.proofs.Totals.{asked-of, total-most}
 use Rattle.balance.specs.Balance.{ratioInRange}
 use Rattle.balance.proofs.Distance.{balance-near}
@@ -28,7 +28,7 @@ sub-fuel-used : tie.Need-sub-fuel-used
 sub-fuel-used c = let a = asked-of _ _ _ (taken-number _ _ (c .enum-told .given .1) (c .before .before .question-verdict .ensures)) in omega arith
 
 fuel-used-requires : tie.Need-fuel-used-requires
-fuel-used-requires c κs = let a = asked-of _ _ _ (taken-number _ _ (c .enum-told .given .1) (c .before .before .question-verdict .ensures)) in (run-limits _ (a .order), omega arith)
+fuel-used-requires c κs = let a = asked-of _ _ _ (taken-number _ _ (c .enum-told .given .1) (c .before .before .question-verdict .ensures)) in (total-limits _ (a .order), omega arith)
 
 returns-2 : tie.Need-returns-2
 returns-2 c = let e = answer-no-fuel _ _ _ _ _ (c .before .before .before .enum-told .given .1) (c .before .before .before .before .before .question-verdict .ensures) (sym (c .before .before .fuel-used .ensures) ∙ c .if1 .taken) in (e, rw e (balance-near _ _ _ _))
@@ -49,7 +49,7 @@ sub-total-at-2 : tie.Need-sub-total-at-2
 sub-total-at-2 c = let a = asked-of _ _ _ (taken-number _ _ (c .before .before .before .before .before .before .before .enum-told .given .1) (c .before .before .before .before .before .before .before .before .before .question-verdict .ensures)) in omega arith
 
 total-at-requires : tie.Need-total-at-requires
-total-at-requires c κs = let a = asked-of _ _ _ (taken-number _ _ (c .before .before .before .before .before .before .before .enum-told .given .1) (c .before .before .before .before .before .before .before .before .before .question-verdict .ensures)) in (run-limits _ (a .order), omega arith)
+total-at-requires c κs = let a = asked-of _ _ _ (taken-number _ _ (c .before .before .before .before .before .before .before .enum-told .given .1) (c .before .before .before .before .before .before .before .before .before .question-verdict .ensures)) in (total-limits _ (a .order), omega arith)
 
 scaled-requires : tie.Need-scaled-requires
 scaled-requires c κs = let a = asked-of _ _ _ (taken-number _ _ (c .before .before .before .before .before .before .before .before .enum-told .given .1) (c .before .before .before .before .before .before .before .before .before .before .question-verdict .ensures)) in let m = total-most _ (a .order) (c .before .before .before .before .before .before .before .before .before .before .before .args .fuel - 1) (c .before .before .before .before .before .before .before .before .before .before .before .args .quantity - 1) (omega arith) (omega arith) in let n = range-most _ _ _ (c .before .before .before .ratio-in-range .ensures) in record { grams = rw (c .total-at .ensures) m; divisor = omega arith; small = omega arith; factor = omega (arith, n) }

@@ -4,9 +4,6 @@ use borrow.Author.Needs.{needs}
 use Rattle.figures.proofs.row_from.Statement.{statement}
 use Rattle.figures.proofs.row_from.Tie as tie
 
-add-t9 : tie.Need-add-t9
-add-t9 c = search needs
-
 add-t11 : tie.Need-add-t11
 add-t11 c = search needs
 
@@ -31,35 +28,19 @@ add-t23 c = search needs
 add-t25 : tie.Need-add-t25
 add-t25 c = search needs
 
-add-t26 : tie.Need-add-t26
-add-t26 c = search needs
-
 add-t27 : tie.Need-add-t27
 add-t27 c = search needs
-
-add-t28 : tie.Need-add-t28
-add-t28 c = search needs
 
 add-t29 : tie.Need-add-t29
 add-t29 c = search needs
 
-add-t30 : tie.Need-add-t30
-add-t30 c = search needs
-
-add-t31 : tie.Need-add-t31
-add-t31 c = search needs
-
-add-t33 : tie.Need-add-t33
-add-t33 c = search needs
-
 returns : tie.Need-returns
-returns c = row-made _ _ _ _ _ _ _ _
+returns c = row-made _ _ _ _ _ _ _ _ _ _
 
 pub row-from-spec : {M : Type 1} → statement M
 row-from-spec =
     tie.close
     (tie.spec
-    add-t9
     add-t11
     add-t13
     add-t15
@@ -68,11 +49,6 @@ row-from-spec =
     add-t21
     add-t23
     add-t25
-    add-t26
     add-t27
-    add-t28
     add-t29
-    add-t30
-    add-t31
-    add-t33
     returns)

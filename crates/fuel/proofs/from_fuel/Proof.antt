@@ -3,7 +3,7 @@ use mathlib.Core.Path.{_≡_, sym}
 use Prim.Native.Nat.{_-_}
 use native.Mathlib.Omega.{arith}
 use Rattle.units.proofs.Refusals.{taken-number}
-use Rattle.inventory.proofs.Order.{run-limits}
+use Rattle.inventory.proofs.Order.{total-limits}
 use Rattle.inventory.proofs.Totals.{answer-refused, answer-given, total-most}
 use Rattle.fuel.proofs.Contents.{contained, sized}
 use borrow.Author.Needs.{needs}
@@ -26,7 +26,7 @@ sub-total-at : tie.Need-sub-total-at
 sub-total-at c = let s = c .before .before .before in let a = contained _ _ _ _ (taken-number _ _ (c .enum-told .given .1) (c .before .before .content-verdict .ensures)) in omega arith
 
 total-at-requires : tie.Need-total-at-requires
-total-at-requires c κs = let s = c .before .before .before in let a = contained _ _ _ _ (taken-number _ _ (c .enum-told .given .1) (c .before .before .content-verdict .ensures)) in (run-limits _ (a .order), omega arith)
+total-at-requires c κs = let s = c .before .before .before in let a = contained _ _ _ _ (taken-number _ _ (c .enum-told .given .1) (c .before .before .content-verdict .ensures)) in (total-limits _ (a .order), omega arith)
 
 mul-scaled : tie.Need-mul-scaled
 mul-scaled c = let s = c .before .before .before .before in let a = contained _ _ _ _ (taken-number _ _ (c .before .enum-told .given .1) (c .before .before .before .content-verdict .ensures)) in let z = sized (s .args .limit) (s .args .content) (s .args .a) (s .args .b) (s .args .c) (s .args .d) (a .content-high) (s .pre .1) (s .pre .2) in omega (arith, z .0, z .1)

@@ -1,5 +1,6 @@
 -- `harness_runs::field_at` meets its contract. Assumes nothing.
-use Rattle.harness_runs.proofs.Runs.{at-trip, at-x, at-count, at-km, at-none, at-grams, at-rest}
+use mathlib.Core.Path.{_∙_}
+use Rattle.harness_runs.proofs.Runs.{at-trip, at-x, at-count, at-km, at-total, at-grams, at-rest}
 use borrow.Author.Needs.{needs}
 use Rattle.harness_runs.proofs.field_at.Statement.{statement}
 use Rattle.harness_runs.proofs.field_at.Tie as tie
@@ -28,8 +29,11 @@ element-copy-out-m c = search needs
 returns-4 : tie.Need-returns-4
 returns-4 c = at-km _ _ (c .before .before .if3 .left) (c .before .if4 .taken)
 
+total-field-requires : tie.Need-total-field-requires
+total-field-requires c κs = search needs
+
 returns-5 : tie.Need-returns-5
-returns-5 c = at-none _ _ (c .before .if4 .left) (c .if5 .taken)
+returns-5 c = c .total-field .ensures ∙ at-total _ _ (c .before .before .if4 .left) (c .before .if5 .taken)
 
 mul-g : tie.Need-mul-g
 mul-g c = search needs
@@ -61,6 +65,7 @@ field-at-spec =
     mul-m
     element-copy-out-m
     returns-4
+    total-field-requires
     returns-5
     mul-g
     element-copy-out-g

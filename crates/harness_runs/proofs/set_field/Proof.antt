@@ -1,6 +1,6 @@
 -- `harness_runs::set_field` meets its contract. Assumes nothing.
 use Rattle.units.proofs.Between.{length-of}
-use Rattle.harness_runs.proofs.Runs.{set-trip, set-x, set-count, set-km, set-grams, set-rest, no-x, no-km, no-grams, no-rest, no-field}
+use Rattle.harness_runs.proofs.Runs.{set-trip, set-x, set-count, set-km, set-grams, set-rest, set-total, set-total-rest, no-x, no-km, no-grams, no-rest, no-total, no-total-rest, no-field}
 use borrow.Author.Needs.{needs}
 use Rattle.harness_runs.proofs.set_field.Statement.{statement}
 use Rattle.harness_runs.proofs.set_field.Tie as tie
@@ -28,6 +28,18 @@ mul-run-2 c = search needs
 
 element-write-run-2 : tie.Need-element-write-run-2
 element-write-run-2 c = search needs
+
+mul-t38 : tie.Need-mul-t38
+mul-t38 c = search needs
+
+element-set-from-run-3 : tie.Need-element-set-from-run-3
+element-set-from-run-3 c = search needs
+
+mul-run-3 : tie.Need-mul-run-3
+mul-run-3 c = search needs
+
+element-write-run-3 : tie.Need-element-write-run-3
+element-write-run-3 c = search needs
 
 returns : tie.Need-returns
 returns c = set-trip _ _ _ _ (c .if1 .taken)
@@ -60,7 +72,19 @@ returns-10 : tie.Need-returns-10
 returns-10 c = no-rest _ _ _ _ (c .before .if9 .taken) (search needs) (c .if10 .left)
 
 returns-11 : tie.Need-returns-11
-returns-11 c = no-field _ _ _ _ (c .before .before .before .before .before .if1 .left) (c .before .before .before .before .if2 .left) (c .before .before .before .if4 .left) (c .before .before .if5 .left) (c .before .if7 .left) (c .if9 .left)
+returns-11 c = set-total _ _ _ _ (c .before .if11 .taken)
+
+returns-12 : tie.Need-returns-12
+returns-12 c = no-total _ _ _ _ (c .before .if11 .taken) (search (needs, length-of)) (c .if12 .left)
+
+returns-13 : tie.Need-returns-13
+returns-13 c = set-total-rest _ _ _ _ (c .before .if13 .taken)
+
+returns-14 : tie.Need-returns-14
+returns-14 c = no-total-rest _ _ _ _ (c .before .if13 .taken) (search needs) (c .if14 .left)
+
+returns-15 : tie.Need-returns-15
+returns-15 c = no-field _ _ _ _ (c .before .before .before .before .before .before .before .if1 .left) (c .before .before .before .before .before .before .if2 .left) (c .before .before .before .before .before .if4 .left) (c .before .before .before .before .if5 .left) (c .before .before .before .if7 .left) (c .before .before .if9 .left) (c .before .if11 .left) (c .if13 .left)
 
 pub set-field-spec : {M : Type 1} → statement M
 set-field-spec =
@@ -74,6 +98,10 @@ set-field-spec =
     element-set-from-run-2
     mul-run-2
     element-write-run-2
+    mul-t38
+    element-set-from-run-3
+    mul-run-3
+    element-write-run-3
     returns
     returns-2
     returns-3
@@ -84,4 +112,8 @@ set-field-spec =
     returns-8
     returns-9
     returns-10
-    returns-11)
+    returns-11
+    returns-12
+    returns-13
+    returns-14
+    returns-15)

@@ -2,7 +2,7 @@
 use mathlib.Core.Path.{sym, _∙_}
 use Rattle.units.specs.Refusals.{verdictNumber}
 use Rattle.units.proofs.Refusals.{number-positive, taken-number, refused-number}
-use Rattle.inventory.proofs.Order.{run-limits}
+use Rattle.inventory.proofs.Order.{run-limits, total-limits}
 use Rattle.joins.proofs.Laws.{taken, run-kept, run-joined}
 use borrow.Author.Needs.{needs}
 use Rattle.joining.proofs.join.Statement.{statement}
@@ -22,7 +22,7 @@ enum-told : tie.Need-enum-told
 enum-told c = search needs
 
 joined-run-requires : tie.Need-joined-run-requires
-joined-run-requires c κs = let t = taken _ _ (taken-number _ _ (c .enum-told .given .1) (c .before .before .join-verdict .ensures)) in (run-limits _ (t .first), run-limits _ (t .second))
+joined-run-requires c κs = let t = taken _ _ (taken-number _ _ (c .enum-told .given .1) (c .before .before .join-verdict .ensures)) in ((run-limits _ (t .first), run-limits _ (t .second)), (total-limits _ (t .first), total-limits _ (t .second)))
 
 returns-2 : tie.Need-returns-2
 unfolding verdictNumber

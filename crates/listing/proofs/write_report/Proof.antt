@@ -2,7 +2,7 @@
 use borrow.Author.Needs.{needs}
 use mathlib.Core.Path.{sym, _∙_}
 use borrow.Author.Tests.{not-true, not-false}
-use Rattle.inventory.proofs.Order.{run-limits}
+use Rattle.inventory.proofs.Order.{run-limits, total-limits}
 use Rattle.listing.proofs.Report.{refused-order, refused-short, report-written}
 use Rattle.listing.proofs.write_report.Statement.{statement}
 use Rattle.listing.proofs.write_report.Tie as tie
@@ -14,7 +14,7 @@ returns : tie.Need-returns
 returns c = refused-order _ _ (sym (c .before .in-order .ensures) ∙ not-true _ (c .if1 .taken))
 
 figures-of-requires : tie.Need-figures-of-requires
-figures-of-requires c κs = run-limits _ (sym (c .before .in-order .ensures) ∙ not-false _ (c .if1 .left))
+figures-of-requires c κs = let o = sym (c .before .in-order .ensures) ∙ not-false _ (c .if1 .left) in (run-limits _ o, total-limits _ o)
 
 report-length-requires : tie.Need-report-length-requires
 report-length-requires c κs = search needs

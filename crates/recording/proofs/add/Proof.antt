@@ -3,7 +3,6 @@ use mathlib.Core.Path.{refl, sym, _∙_}
 use borrow.Author.Tests.{not-true, not-false}
 use Rattle.units.specs.Refusals.{verdictNumber, refusalNumber}
 use Rattle.units.proofs.Refusals.{number-positive, taken-number, refused-number}
-use Rattle.inventory.proofs.Order.{run-limits}
 use Rattle.inventory.proofs.Records.{record-limits}
 use Rattle.recording.proofs.Runs.{add-unordered, add-ordered, ready, run-kept, run-added}
 use borrow.Author.Needs.{needs}
@@ -38,7 +37,7 @@ run-with-requires : tie.Need-run-with-requires
 run-with-requires c κs =
     let o = sym (c .before .before .before .before .in-order .ensures) ∙ not-false _ (c .before .before .before .if1 .left) in
     let t = ready _ _ (taken-number _ _ (c .enum-told .given .1) (c .before .before .add-verdict .ensures ∙ add-ordered _ _ o)) in
-    (record-limits _ (t .own), (run-limits _ (t .order), t .room))
+    (record-limits _ (t .own), (t .order, t .room))
 
 returns-3 : tie.Need-returns-3
 unfolding verdictNumber

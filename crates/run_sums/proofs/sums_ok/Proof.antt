@@ -1,81 +1,31 @@
 -- `run_sums::sums_ok` meets its contract. Assumes nothing.
-use Prim.Native.Nat.{_≤_, _-_}
+use mathlib.Core.Path.{sym, _∙_}
 use native.Mathlib.Omega.{arith}
-use Rattle.inventory.specs.Order.{gramsIn}
-use Rattle.run_sums.proofs.Together.{Within, within-none, within-more, markIn, together}
+use borrow.Author.Tests.{not-true, not-false}
+use Rattle.run_sums.proofs.Together.{bad-sums, then-totals}
 use borrow.Author.Needs.{needs}
 use Rattle.run_sums.proofs.sums_ok.Statement.{statement}
 use Rattle.run_sums.proofs.sums_ok.Tie as tie
 
-abbrev Inv-loop : tie.InvT-loop
-Inv-loop run grams₀ marks₀ j₀ grams marks j = (j ≤ 60) × Within (gramsIn run) j grams × Within (markIn run) j marks
+nothing-in-requires : tie.Need-nothing-in-requires
+nothing-in-requires c κs = search needs
 
-abbrev μ-loop : tie.MeasureT-loop
-μ-loop run grams₀ marks₀ j₀ grams marks j = 60 - j
+returns : tie.Need-returns
+returns c = c .before .nothing-in .ensures (c .if2 .taken)
 
-no-sums-ok-requires : tie.Need-no-sums-ok-requires Inv-loop μ-loop
-no-sums-ok-requires c κs = search needs
+kinds-ok-requires : tie.Need-kinds-ok-requires
+kinds-ok-requires c κs = search needs
 
-returns : tie.Need-returns Inv-loop μ-loop
-returns c = search needs
+returns-2 : tie.Need-returns-2
+returns-2 c = bad-sums (c .before .before .before .before .args .run) (sym (c .before .kinds-ok .ensures) ∙ not-true _ (c .if3 .taken))
 
-loop-holds : tie.Need-loop-holds Inv-loop μ-loop
-loop-holds c = let run = c .before .args .t1 in (search needs, within-none (gramsIn run) _, within-none (markIn run) _)
+totals-ok-requires : tie.Need-totals-ok-requires
+totals-ok-requires c κs = (omega arith, sym (c .before .kinds-ok .ensures) ∙ not-false _ (c .if3 .left))
 
-mul-g : tie.Need-mul-g Inv-loop μ-loop
-mul-g c = search needs
-
-element-copy-out-g : tie.Need-element-copy-out-g Inv-loop μ-loop
-element-copy-out-g c = search needs
-
-mul-rest-mark : tie.Need-mul-rest-mark Inv-loop μ-loop
-mul-rest-mark c = search needs
-
-element-copy-out-rest-mark : tie.Need-element-copy-out-rest-mark Inv-loop μ-loop
-element-copy-out-rest-mark c = search needs
-
-rest-mark-requires : tie.Need-rest-mark-requires Inv-loop μ-loop
-rest-mark-requires c κs = search needs
-
-add-j : tie.Need-add-j Inv-loop μ-loop
-add-j c = search needs
-
-loop-less : tie.Need-loop-less Inv-loop μ-loop
-loop-less c = search needs
-
-loop-again : tie.Need-loop-again Inv-loop μ-loop
-loop-again c = let run = c .before .before .before .before .before .before .before .args .t1 in (omega arith, within-more (gramsIn run) _ _ (c .before .before .before .before .before .loop .inv .1), rw (c .rest-mark .ensures) (within-more (markIn run) _ _ (c .before .before .before .before .before .loop .inv .2)))
-
-mul-t21 : tie.Need-mul-t21 Inv-loop μ-loop
-mul-t21 c = search needs
-
-returns-2 : tie.Need-returns-2 Inv-loop μ-loop
-returns-2 c = together (c .before .before .before .before .before .before .args .t1) _ _ (c .before .before .before .before .loop .inv .1) (omega arith) _ (c .before .before .before .before .loop .inv .2) (c .before .before .if2 .taken) (c .if3 .taken)
-
-each-sum-ok-requires : tie.Need-each-sum-ok-requires Inv-loop μ-loop
-each-sum-ok-requires c κs = search needs
-
-returns-3 : tie.Need-returns-3 Inv-loop μ-loop
-returns-3 c = search needs
+returns-3 : tie.Need-returns-3
+returns-3 c = then-totals (c .before .before .before .before .before .args .run) (sym (c .before .before .kinds-ok .ensures) ∙ not-false _ (c .before .if3 .left)) _ (c .totals-ok .ensures)
 
 pub sums-ok-spec : {M : Type 1} → statement M
 sums-ok-spec =
     tie.close
-    (tie.spec
-    Inv-loop
-    μ-loop
-    no-sums-ok-requires
-    returns
-    loop-holds
-    mul-g
-    element-copy-out-g
-    mul-rest-mark
-    element-copy-out-rest-mark
-    rest-mark-requires
-    add-j
-    loop-less
-    loop-again
-    mul-t21
-    returns-2
-    each-sum-ok-requires
-    returns-3)
+    (tie.spec nothing-in-requires returns kinds-ok-requires returns-2 totals-ok-requires returns-3)

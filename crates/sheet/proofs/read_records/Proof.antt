@@ -10,15 +10,17 @@ use Rattle.units.specs.declared.VehicleKm.{VehicleKm}
 use Rattle.units.specs.Refusals.{refusalNumber, verdictNumber}
 use Rattle.units.proofs.Refusals.{number-positive, taken-number, refused-number}
 use Rattle.units.proofs.Tab.{tab-length}
+use Rattle.units.proofs.Between.{length-of}
 use Rattle.inventory.specs.declared.Run.{Run}
 use Rattle.inventory.specs.Order.{inOrder}
-use Rattle.inventory.specs.Adding.{addRun}
+use Rattle.inventory.specs.Adding.{withTotals, addRun}
 use Rattle.inventory.proofs.Kept.{order-kept}
 use Rattle.inventory.proofs.Order.{run-limits}
 use Rattle.inventory.proofs.Records.{record-limits}
 use Rattle.sums.specs.declared.WholeGrams.{WholeGrams}
 use Rattle.recording.proofs.Runs.{add-ordered, ready, run-added}
-use Rattle.sums.proofs.Parts.{sums-limits, km-limits, whole}
+use Rattle.sums.proofs.Parts as parts
+use Rattle.sums.proofs.Parts.{sums-limits, km-limits}
 use Rattle.lines.specs.Lines.{lines}
 use Rattle.sheet.specs.Sheet.{fromRecords}
 use Rattle.sheet.proofs.Walk.{gives-by, cut-short, lf-missing, misread, read, not-ok, is-ok, its-record, nine, decided-taken, decided-refused, at-last}
@@ -28,18 +30,21 @@ use Rattle.sheet.proofs.read_records.Tie as tie
 
 -- the run that the loop keeps by its parts
 abbrev kept : ℕ → List ℕ → ℕ → List VehicleKm → WholeGrams → List ℕ → Run
-kept trip x count km whole rests = record { trip = trip; x = x; count = count; km = km; grams = whole .sums; rests = rests }
+kept trip x count km whole rests = parts.kept trip x count km (whole .sums) rests
 
 abbrev Inv-loop : tie.InvT-loop
-Inv-loop s from trip x count₀ km₀ whole₀ rests₀ at₀ n₀ count km whole rests at n =
+Inv-loop s from first trip x count₀ km₀ whole₀ rests₀ at₀ n₀ count km whole rests at n =
     (at ≤ length s) × (n + from ≤ at + 2) × (inOrder (kept trip x count km whole rests) ≡ true) × (length rests ≡ 60)
-    × (fromRecords (kept trip x count km whole rests) n (lines (drop at s)) ≡ fromRecords (kept trip x count₀ km₀ whole₀ rests₀) 2 (lines (drop from s)))
+    × (fromRecords (kept trip x count km whole rests) n (lines (drop at s)) ≡ fromRecords first 2 (lines (drop from s)))
 
 abbrev μ-loop : tie.MeasureT-loop
-μ-loop s from trip x count₀ km₀ whole₀ rests₀ at₀ n₀ count km whole rests at n = length s - at
+μ-loop s from first trip x count₀ km₀ whole₀ rests₀ at₀ n₀ count km whole rests at n = length s - at
 
 loop-holds : tie.Need-loop-holds Inv-loop μ-loop
-loop-holds c = (omega arith, omega arith, c .before .before .before .before .before .pre .1, search needs, refl)
+loop-holds c =
+    let s = c .before .before .before .before .before in
+    let e = parts.kept-first (s .args .first) (s .pre .1) (record { xs = search needs; kms = search (needs, length-of); grams = search (needs, length-of); rests = search needs; total-grams = search (needs, length-of); total-rests = search needs }) in
+    (omega arith, omega arith, ap inOrder e ∙ s .pre .1, search needs, ap (λ r. fromRecords r 2 (lines (drop (s .args .from) (s .args .s .now)))) e)
 
 sub-if1 : tie.Need-sub-if1 Inv-loop μ-loop
 sub-if1 c = search needs
@@ -99,6 +104,7 @@ sent-back-requires-4 : tie.Need-sent-back-requires-4 Inv-loop μ-loop
 sent-back-requires-4 c κs = search needs
 
 returns-4 : tie.Need-returns-4 Inv-loop μ-loop
+unfolding withTotals
 returns-4 c =
     let s = c .before .before .before .before .before .before .before .before .before .before .before .before .before .before .before .before .before .before .before .args in
     let l = c .before .before .before .before .before .before .before .before .before .before .before .before .before .loop in
@@ -117,6 +123,7 @@ enum-told : tie.Need-enum-told Inv-loop μ-loop
 enum-told c = search needs
 
 sums-with-requires : tie.Need-sums-with-requires Inv-loop μ-loop
+unfolding withTotals
 sums-with-requires c κs =
     let s = c .before .before .before .before .before .before .before .before .before .before .before .before .before .before .before .before .before .before .before .args in
     let l = c .before .before .before .before .before .before .before .before .before .before .before .before .before .loop in
@@ -131,6 +138,7 @@ sums-with-requires c κs =
     (record-limits _ (y .own), (sums-limits run (run-limits run o), l .inv .3))
 
 kms-with-requires : tie.Need-kms-with-requires Inv-loop μ-loop
+unfolding withTotals
 kms-with-requires c κs =
     let s = c .before .before .before .before .before .before .before .before .before .before .before .before .before .before .before .before .before .before .before .before .args in
     let l = c .before .before .before .before .before .before .before .before .before .before .before .before .before .before .loop in
@@ -145,6 +153,7 @@ kms-with-requires c κs =
     (record-limits _ (y .own), km-limits run (run-limits run o))
 
 add-count : tie.Need-add-count Inv-loop μ-loop
+unfolding withTotals
 add-count c =
     let s = c .before .before .before .before .before .before .before .before .before .before .before .before .before .before .before .before .before .before .before .before .before .args in
     let l = c .before .before .before .before .before .before .before .before .before .before .before .before .before .before .before .loop in
@@ -168,6 +177,7 @@ loop-less : tie.Need-loop-less Inv-loop μ-loop
 loop-less c = search needs
 
 loop-again : tie.Need-loop-again Inv-loop μ-loop
+unfolding withTotals
 loop-again c =
     let s = c .before .before .before .before .before .before .before .before .before .before .before .before .before .before .before .before .before .before .before .before .before .args in
     let l = c .before .before .before .before .before .before .before .before .before .before .before .before .before .before .before .loop in
@@ -181,7 +191,7 @@ loop-again c =
     let v = c .before .before .before .before .before .before .add-verdict .ensures ∙ add-ordered run rec o in
     let z = taken-number _ _ (c .before .before .before .before .enum-told .given .1) v in
     let g = c .before .sums-with .ensures in
-    let w = whole run rec _ _ _ (c .kms-with .ensures) (g .0) (g .1) ∙ run-added run rec z in
+    let w = parts.kept-with (s .first .trip) (s .first .x) (l .count) (l .km) (l .whole .sums) (l .rests) rec _ _ _ (c .kms-with .ensures) (g .0) (g .1) ∙ run-added run rec z in
     let d = rw q at z in (
       omega arith,
       omega arith,
@@ -190,12 +200,20 @@ loop-again c =
       ap (λ u. fromRecords u (l .n + 1) (lines (drop (l .at + 41) (s .s .now)))) (w ∙ ap (addRun run) q) ∙ sym (t ∙ decided-taken _ (l .n) _ d) ∙ l .inv .4,
     )
 
+with-totals-requires : tie.Need-with-totals-requires Inv-loop μ-loop
+with-totals-requires c κs =
+    let s = c .before .before .before .before .before .before .before .before .before .before .args in
+    let l = c .before .before .before .before .loop in
+    parts.last-limits (s .first .trip) (s .first .x) (l .count) (l .km) (l .whole .sums) (l .rests) _ _ (l .inv .2)
+
 returns-5 : tie.Need-returns-5 Inv-loop μ-loop
 unfolding verdictNumber
 returns-5 c =
-    let s = c .before .before .before .before .before .before .before .before .args in
-    let l = c .before .before .loop in
-    gives-by (sym (at-last (kept (s .first .trip) (s .first .x) (l .count) (l .km) (l .whole) (l .rests)) (l .n) (s .s .now) (l .at) (c .before .loop-test .left)) ∙ l .inv .4) (record { number = refl; line = refl; run = refl })
+    let s = c .before .before .before .before .before .before .before .before .before .before .before .args in
+    let l = c .before .before .before .before .before .loop in
+    let run = kept (s .first .trip) (s .first .x) (l .count) (l .km) (l .whole) (l .rests) in
+    let e = c .with-totals .ensures ∙ parts.kept-last (s .first .trip) (s .first .x) (l .count) (l .km) (l .whole .sums) (l .rests) _ _ in
+    gives-by (sym (at-last run (l .n) (s .s .now) (l .at) (c .before .before .before .before .loop-test .left)) ∙ l .inv .4) (record { number = refl; line = refl; run = e })
 
 pub read-records-spec : {M : Type 1} → statement M
 read-records-spec =
@@ -226,4 +244,5 @@ read-records-spec =
     add-n
     loop-less
     loop-again
+    with-totals-requires
     returns-5)

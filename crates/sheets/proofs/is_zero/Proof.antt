@@ -5,10 +5,10 @@ use Rattle.sheets.proofs.is_zero.Statement.{statement}
 use Rattle.sheets.proofs.is_zero.Tie as tie
 
 abbrev Inv-loop : tie.InvT-loop
-Inv-loop run zero₀ i₀ zero i = i ≤ 141
+Inv-loop run zero₀ i₀ zero i = i ≤ 171
 
 abbrev μ-loop : tie.MeasureT-loop
-μ-loop run zero₀ i₀ zero i = 141 - i
+μ-loop run zero₀ i₀ zero i = 171 - i
 
 loop-holds : tie.Need-loop-holds Inv-loop μ-loop
 loop-holds c = search needs

@@ -31,6 +31,9 @@ loop-again c = search needs
 print-run-requires : tie.Need-print-run-requires Inv-loop μ-loop
 print-run-requires c κs = search needs
 
+print-totals-requires : tie.Need-print-totals-requires Inv-loop μ-loop
+print-totals-requires c κs = search needs
+
 returns : tie.Need-returns Inv-loop μ-loop
 returns c = search needs
 
@@ -47,4 +50,5 @@ main-spec =
     loop-less
     loop-again
     print-run-requires
+    print-totals-requires
     returns)

@@ -2,7 +2,7 @@
 use native.Mathlib.Omega.{arith}
 use Rattle.units.proofs.Refusals.{taken-number}
 use Rattle.inventory.specs.Printed.{totalOf}
-use Rattle.inventory.proofs.Order.{run-limits}
+use Rattle.inventory.proofs.Order.{total-limits}
 use Rattle.inventory.proofs.Totals.{asked-of, answer-refused, answer-given}
 use borrow.Author.Needs.{needs}
 use Rattle.totals.proofs.total.Statement.{statement}
@@ -28,7 +28,7 @@ sub-total-at-2 : tie.Need-sub-total-at-2
 sub-total-at-2 c = let a = asked-of _ _ _ (taken-number _ _ (c .enum-told .given .1) (c .before .before .question-verdict .ensures)) in omega arith
 
 total-at-requires : tie.Need-total-at-requires
-total-at-requires c κs = let a = asked-of _ _ _ (taken-number _ _ (c .enum-told .given .1) (c .before .before .question-verdict .ensures)) in (run-limits _ (a .order), omega arith)
+total-at-requires c κs = let a = asked-of _ _ _ (taken-number _ _ (c .enum-told .given .1) (c .before .before .question-verdict .ensures)) in (total-limits _ (a .order), omega arith)
 
 returns-2 : tie.Need-returns-2
 unfolding totalOf

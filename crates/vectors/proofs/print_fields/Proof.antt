@@ -5,10 +5,10 @@ use Rattle.vectors.proofs.print_fields.Statement.{statement}
 use Rattle.vectors.proofs.print_fields.Tie as tie
 
 abbrev Inv-loop : tie.InvT-loop
-Inv-loop run i₀ i = i ≤ 141
+Inv-loop run i₀ i = i ≤ 171
 
 abbrev μ-loop : tie.MeasureT-loop
-μ-loop run i₀ i = 141 - i
+μ-loop run i₀ i = 171 - i
 
 loop-holds : tie.Need-loop-holds Inv-loop μ-loop
 loop-holds c = search needs

@@ -1,0 +1,54 @@
+-- `area_vectors::print_totals` is safe and ends. Assumes nothing.
+use Prim.Native.Nat.{_≤_, _-_}
+use borrow.Author.Needs.{needs}
+use Rattle.area_vectors.proofs.print_totals.Statement.{statement}
+use Rattle.area_vectors.proofs.print_totals.Tie as tie
+
+abbrev Inv-loop : tie.InvT-loop
+Inv-loop run from i₀ i = i ≤ 15
+
+abbrev μ-loop : tie.MeasureT-loop
+μ-loop run from i₀ i = 15 - i
+
+loop-holds : tie.Need-loop-holds Inv-loop μ-loop
+loop-holds c = search needs
+
+mul-field-at : tie.Need-mul-field-at Inv-loop μ-loop
+mul-field-at c = search needs
+
+add-field-at : tie.Need-add-field-at Inv-loop μ-loop
+add-field-at c = search needs
+
+field-at-requires : tie.Need-field-at-requires Inv-loop μ-loop
+field-at-requires c κs = search needs
+
+print-requires : tie.Need-print-requires Inv-loop μ-loop
+print-requires c κs = search needs
+
+add-i : tie.Need-add-i Inv-loop μ-loop
+add-i c = search needs
+
+loop-less : tie.Need-loop-less Inv-loop μ-loop
+loop-less c = search needs
+
+loop-again : tie.Need-loop-again Inv-loop μ-loop
+loop-again c = search needs
+
+returns : tie.Need-returns Inv-loop μ-loop
+returns c = search needs
+
+pub print-totals-spec : {M : Type 1} → statement M
+print-totals-spec =
+    tie.close
+    (tie.spec
+    Inv-loop
+    μ-loop
+    loop-holds
+    mul-field-at
+    add-field-at
+    field-at-requires
+    print-requires
+    add-i
+    loop-less
+    loop-again
+    returns)
