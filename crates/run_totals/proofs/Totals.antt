@@ -10,6 +10,7 @@ use borrow.Author.Tests.{eqb-true, eqb-false, leb-true, leb-false, ltb-true, ltb
 use Rattle.units.specs.declared.Grams.{Grams}
 use Rattle.units.specs.Lists.{allBelow, tab}
 use Rattle.units.proofs.Tab.{tab-at}
+use Rattle.units.proofs.Tests.{fails}
 use Rattle.units.proofs.Between.{Between, between}
 use Rattle.inventory.specs.declared.Amount.{Amount}
 use Rattle.inventory.specs.declared.Run.{Run}
@@ -132,6 +133,11 @@ rests-tell run s k h =
     total-by (gramsIn run (k * 4)) (gramsIn run (k * 4 + 1)) (gramsIn run (k * 4 + 2)) (gramsIn run (k * 4 + 3)) (restIn run (k * 4)) (restIn run (k * 4 + 1)) (restIn run (k * 4 + 2)) (restIn run (k * 4 + 3)) (totalGramsIn run k) (totalRestIn run k)
     (rest-passed run s _ (omega arith)) (rest-passed run s _ (omega arith)) (rest-passed run s _ (omega arith)) (rest-passed run s _ (omega arith))
     ∙ ap (λ n. isAmount n (totalGramsIn run k) (totalRestIn run k)) (exact-at run k (k * 4) refl)
+
+-- four rests carry no more than 3 g
+pub too-much : (run : Run) → allBelow (sumOk run) 60 ≡ true → (k carry : ℕ) → k < 15 → carry ≡ carryAt run k → 3 < carry → false ≡ allBelow (totalOk run) 15
+too-much run s k carry h e l =
+    sym (fails (totalOk run) 15 k h (sym (rests-tell run s k h) ∙ sym (rest-over (carryAt run k) (totalRestIn run k) _ (omega (arith, e)))))
 
 pub told-at : (run : Run) → allBelow (sumOk run) 60 ≡ true → (carries : List ℕ) (t : Bool) (k : ℕ) → carries ≡ tab (carryAt run) 15 → k < 15
     → t ≡ restOk (getD carries k 0) (totalRestIn run k) (restIn run (k * 4) + restIn run (k * 4 + 1) + restIn run (k * 4 + 2) + restIn run (k * 4 + 3))

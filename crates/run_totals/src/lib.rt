@@ -80,6 +80,9 @@ pub fn totals_ok(run: Run) -> bool
             run.grams[j + 2],
             run.grams[j + 3],
         );
+        if 3 < carry {
+            return false;
+        }
         carries[i] = carry;
         i += 1;
     }

@@ -9,7 +9,7 @@ use Rattle.units.proofs.Tab.{Filled, filled-none, filled-more, filled}
 use Rattle.units.proofs.Tests.{more, fails, done}
 use Rattle.inventory.specs.Order.{totalOk}
 use Rattle.inventory.proofs.Order.{rest-passed}
-use Rattle.run_totals.proofs.Totals.{carryAt, grams-limit, told-at}
+use Rattle.run_totals.proofs.Totals.{carryAt, grams-limit, too-much, told-at}
 use borrow.Author.Needs.{needs}
 use Rattle.run_totals.proofs.totals_ok.Statement.{statement}
 use Rattle.run_totals.proofs.totals_ok.Tie as tie
@@ -78,6 +78,9 @@ element-copy-out-carry-of-5 c = search needs
 carry-of-requires : tie.Need-carry-of-requires Inv-loop μ-loop Inv-loop2 μ-loop2
 carry-of-requires c κs = let s = c .before .before .before .before .before .before .before in let limits = grams-limit (s .args .t1) (s .pre .0) (s .pre .1) in (limits _ (omega arith), limits _ (omega arith), limits _ (omega arith), limits _ (omega arith))
 
+returns : tie.Need-returns Inv-loop μ-loop Inv-loop2 μ-loop2
+returns c = let s = c .before .before .before .before .before .before .before .before .before in let i = c .before .before .before .before .before .before .before .before .loop .i in let h = c .before .before .before .before .before .before .before .loop-test .taken in too-much (s .args .t1) (s .pre .1) i _ h (c .before .carry-of .ensures) (c .if1 .taken)
+
 mul-carries : tie.Need-mul-carries Inv-loop μ-loop Inv-loop2 μ-loop2
 mul-carries c = search needs
 
@@ -91,7 +94,7 @@ loop-less : tie.Need-loop-less Inv-loop μ-loop Inv-loop2 μ-loop2
 loop-less c = search needs
 
 loop-again : tie.Need-loop-again Inv-loop μ-loop Inv-loop2 μ-loop2
-loop-again c = let i = c .before .before .before .before .before .before .before .loop .inv in let h = c .before .before .before .before .before .before .loop-test .taken in (omega arith, filled-more _ (i .1) h (c .carry-of .ensures))
+loop-again c = let i = c .before .before .before .before .before .before .before .before .loop .inv in let h = c .before .before .before .before .before .before .before .loop-test .taken in (omega arith, filled-more _ (i .1) h (c .before .carry-of .ensures))
 
 loop2-holds : tie.Need-loop2-holds Inv-loop μ-loop Inv-loop2 μ-loop2
 unfolding allBelow
@@ -146,10 +149,14 @@ element-copy-out-rest-ok-5 : tie.Need-element-copy-out-rest-ok-5 Inv-loop μ-loo
 element-copy-out-rest-ok-5 c = search needs
 
 rest-ok-requires : tie.Need-rest-ok-requires Inv-loop μ-loop Inv-loop2 μ-loop2
-rest-ok-requires c κs = let s = c .before .before .before .before .before .before .before .before .before in (rest-passed (s .args .t1) (s .pre .1) _ (omega arith), rest-passed (s .args .t1) (s .pre .1) _ (omega arith), rest-passed (s .args .t1) (s .pre .1) _ (omega arith), rest-passed (s .args .t1) (s .pre .1) _ (omega arith))
+rest-ok-requires c κs = let s = c .before .before .before .before .before .before .before .before .before in let rests = rest-passed (s .args .t1) (s .pre .1) in (rests _ (omega arith), rests _ (omega arith), rests _ (omega arith), rests _ (omega arith))
 
-returns : tie.Need-returns Inv-loop μ-loop Inv-loop2 μ-loop2
-returns c = let s = c .before .before .before .before .before .before .before .before .before .before .before in let k = c .before .before .before .before .before .before .before .before .loop2 .k in let h = c .before .before .before .before .before .before .before .loop2-test .taken in let f = c .before .before .before .before .before .before .before .before .before .before .loop .inv in let e = told-at (s .args .t1) (s .pre .1) _ _ k (filled (f .1) (f .0) (omega arith)) h (c .before .rest-ok .ensures) in sym (fails _ 15 k h (sym e ∙ not-true _ (c .if1 .taken)))
+returns-2 : tie.Need-returns-2 Inv-loop μ-loop Inv-loop2 μ-loop2
+returns-2 c = let s = c .before .before .before .before .before .before .before .before .before .before .before in
+    let k = c .before .before .before .before .before .before .before .before .loop2 .k in
+    let h = c .before .before .before .before .before .before .before .loop2-test .taken in
+    let f = c .before .before .before .before .before .before .before .before .before .before .loop .inv in
+    let e = told-at (s .args .t1) (s .pre .1) _ _ k (filled (f .1) (f .0) (omega arith)) h (c .before .rest-ok .ensures) in sym (fails _ 15 k h (sym e ∙ not-true _ (c .if2 .taken)))
 
 add-k : tie.Need-add-k Inv-loop μ-loop Inv-loop2 μ-loop2
 add-k c = search needs
@@ -158,10 +165,14 @@ loop2-less : tie.Need-loop2-less Inv-loop μ-loop Inv-loop2 μ-loop2
 loop2-less c = search needs
 
 loop2-again : tie.Need-loop2-again Inv-loop μ-loop Inv-loop2 μ-loop2
-loop2-again c = let s = c .before .before .before .before .before .before .before .before .before .before .before in let k = c .before .before .before .before .before .before .before .before .loop2 .k in let h = c .before .before .before .before .before .before .before .loop2-test .taken in let f = c .before .before .before .before .before .before .before .before .before .before .loop .inv in let e = told-at (s .args .t1) (s .pre .1) _ _ k (filled (f .1) (f .0) (omega arith)) h (c .before .rest-ok .ensures) in (omega (arith, h), more _ k (c .before .before .before .before .before .before .before .before .loop2 .inv .1) (sym e ∙ not-false _ (c .if1 .left)))
+loop2-again c = let s = c .before .before .before .before .before .before .before .before .before .before .before in
+    let k = c .before .before .before .before .before .before .before .before .loop2 .k in
+    let h = c .before .before .before .before .before .before .before .loop2-test .taken in
+    let f = c .before .before .before .before .before .before .before .before .before .before .loop .inv in
+    let e = told-at (s .args .t1) (s .pre .1) _ _ k (filled (f .1) (f .0) (omega arith)) h (c .before .rest-ok .ensures) in (omega (arith, h), more _ k (c .before .before .before .before .before .before .before .before .loop2 .inv .1) (sym e ∙ not-false _ (c .if2 .left)))
 
-returns-2 : tie.Need-returns-2 Inv-loop μ-loop Inv-loop2 μ-loop2
-returns-2 c = done _ 15 _ (c .before .loop2 .inv .1) (omega arith) (omega arith)
+returns-3 : tie.Need-returns-3 Inv-loop μ-loop Inv-loop2 μ-loop2
+returns-3 c = done _ 15 _ (c .before .loop2 .inv .1) (omega arith) (omega arith)
 
 pub totals-ok-spec : {M : Type 1} → statement M
 totals-ok-spec =
@@ -187,6 +198,7 @@ totals-ok-spec =
     mul-carry-of-5
     element-copy-out-carry-of-5
     carry-of-requires
+    returns
     mul-carries
     array-write-carries
     add-i
@@ -210,8 +222,8 @@ totals-ok-spec =
     mul-rest-ok-6
     element-copy-out-rest-ok-5
     rest-ok-requires
-    returns
+    returns-2
     add-k
     loop2-less
     loop2-again
-    returns-2)
+    returns-3)
