@@ -79,7 +79,7 @@ impl Balances {
     fn times(&self, repetitions: usize) -> [f64; 3] {
         let Balances { ours, a, b, asked } = self;
         let times = best(repetitions, [
-            &mut || ours.iter().zip(asked).for_each(|(run, &(f, q, s))| { let _ = black_box(c::haldurap_balance(*black_box(run), black_box(f), q, s)); }),
+            &mut || ours.iter().zip(asked).for_each(|(run, &(f, q, s))| { let (run, f) = (black_box(run), black_box(f)); let _ = black_box(c::haldurap_balance(*run, f, q, s)); }),
             &mut || a.iter().zip(asked).for_each(|(run, &(f, q, s))| { black_box(plain_balance(black_box(run), black_box(f), q, s)); }),
             &mut || b.iter().zip(asked).for_each(|(run, &(f, q, s))| { black_box(tuned_balance(black_box(run), black_box(f), q, s)); }),
         ]);

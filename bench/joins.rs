@@ -21,6 +21,16 @@ extern "C" fn tuned_join(first: tuned::Run, second: tuned::Run) -> TunedAnswer {
     answer
 }
 
+#[inline(always)]
+fn our_join([first, second]: &[c::Run; 2]) {
+    let _ = black_box(c::haldurap_join(*first, *second));
+}
+
+#[inline(always)]
+fn tuned_by_value([first, second]: &[tuned::Run; 2]) {
+    black_box(tuned_join(*first, *second));
+}
+
 #[inline(never)]
 fn tuned_join_into(first: &tuned::Run, second: &tuned::Run, run: &mut tuned::Run) -> u64 {
     tuned::join(first, second, run)
@@ -101,12 +111,12 @@ impl Pairs {
         let Pairs { ours, a, b } = self;
         let mut run = tuned::ZERO;
         let by_value = best(repetitions, [
-            &mut || ours.iter().for_each(|[first, second]| { let _ = black_box(c::haldurap_join(*black_box(first), *black_box(second))); }),
+            &mut || ours.iter().for_each(|pair| our_join(black_box(pair))),
             &mut || a.iter().for_each(|[first, second]| { black_box(plain_join(black_box(first), black_box(second))); }),
-            &mut || b.iter().for_each(|[first, second]| { black_box(tuned_join(black_box(first).clone(), black_box(second).clone())); }),
+            &mut || b.iter().for_each(|pair| tuned_by_value(black_box(pair))),
         ]);
         let by_reference = best(repetitions, [
-            &mut || ours.iter().for_each(|[first, second]| { let _ = black_box(c::haldurap_join(*black_box(first), *black_box(second))); }),
+            &mut || ours.iter().for_each(|pair| our_join(black_box(pair))),
             &mut || a.iter().for_each(|[first, second]| { black_box(plain_join(black_box(first), black_box(second))); }),
             &mut || b.iter().for_each(|[first, second]| { black_box(tuned_join_into(black_box(first), black_box(second), black_box(&mut run))); }),
         ]);

@@ -9,6 +9,7 @@
 //! (bench/run.sh makes them), and the stored totals of (a) and (b) are not compared with it.
 mod areas;
 mod balances;
+mod by_value;
 #[cfg_attr(not(no_totals), path = "../include/haldurap.rs")]
 #[cfg_attr(no_totals, path = "../target/haldurap_other.rs")]
 mod haldurap;
@@ -104,6 +105,13 @@ fn plain_add(run: &mut plain::Run, r: &plain::Record) -> u64 {
 #[inline(never)]
 fn tuned_add(run: &mut tuned::Run, r: &tuned::Record) -> u64 {
     tuned::add(run, r)
+}
+
+// what else is handed in is known before the run, so that the compiler copies this once
+#[inline(always)]
+fn our_total(run: &c::Run, fuel: u64, quantity: u64) {
+    let (run, fuel) = (black_box(run), black_box(fuel));
+    let _ = black_box(c::haldurap_total(*run, fuel, quantity));
 }
 
 #[inline(never)]
@@ -367,7 +375,7 @@ fn keep<const N: usize>(kept: &mut [f64; N], times: [f64; N]) {
 const LENGTHS: [usize; 10] = [0, 1, 10, 50, 100, 200, 400, 800, 1200, 1596];
 
 /// The best times: of sheets by length, adds by position, the first add, a total, a report, opening without and with dates, the
-/// test of order, a record of a list, balances by digits, joins, the calls of areas.
+/// test of order, a record of a list, a total by value, balances by digits, joins, the calls of areas.
 struct Best {
     sheets: [[f64; 3]; LENGTHS.len()],
     adds: [[f64; 10]; 3],
@@ -378,6 +386,7 @@ struct Best {
     dated: [f64; 3],
     order: [f64; 3],
     list: [f64; 3],
+    by_value: by_value::Best,
     balances: balances::Best,
     joins: joins::Best,
     areas: areas::Best,
@@ -400,6 +409,7 @@ impl Best {
             row("order of a full run", self.order),
             row("list of 5,000, each record", self.list),
         ];
+        rows.extend(self.by_value.rows());
         rows.extend(self.balances.rows());
         rows.extend(self.joins.rows());
         rows.extend(self.areas.rows());
@@ -434,7 +444,7 @@ fn pass(best_of: &mut Best, inputs: &Inputs, runs: &(c::Run, plain::Run, tuned::
 
     let places: Vec<(u64, u64)> = (1..=3).flat_map(|f| (1..=5).map(move |q| (f, q))).collect();
     let times = best(repetitions, [
-        &mut || places.iter().for_each(|&(f, q)| { let _ = black_box(c::haldurap_total(*black_box(ours), black_box(f), q)); }),
+        &mut || places.iter().for_each(|&(f, q)| our_total(ours, f, q)),
         &mut || places.iter().for_each(|&(f, q)| { black_box(plain_total(black_box(a), black_box(f), q)); }),
         &mut || places.iter().for_each(|&(f, q)| { black_box(tuned_total(black_box(b), black_box(f), q)); }),
     ]);
@@ -443,7 +453,7 @@ fn pass(best_of: &mut Best, inputs: &Inputs, runs: &(c::Run, plain::Run, tuned::
     let lengths = [c::report(*ours, buffer).bytes, plain_report(a, buffer_a), tuned_report(b, buffer_b)];
     assert!(same_texts(lengths, buffer, buffer_a, buffer_b), "the three reports differ");
     let times = best(repetitions, [
-        &mut || { let _ = black_box(c::report(*black_box(ours), black_box(buffer))); },
+        &mut || { let (run, buffer) = (black_box(ours), black_box(&mut *buffer)); let _ = black_box(c::report(*run, buffer)); },
         &mut || { black_box(plain_report(black_box(a), black_box(buffer_a))); },
         &mut || { black_box(tuned_report(black_box(b), black_box(buffer_b))); },
     ]);
@@ -473,6 +483,7 @@ fn pass(best_of: &mut Best, inputs: &Inputs, runs: &(c::Run, plain::Run, tuned::
     ]);
     keep(&mut best_of.list, times.map(|t| t / 5000.0));
 
+    best_of.by_value.pass(runs, repetitions);
     best_of.balances.pass(runs, repetitions);
     best_of.joins.pass(inputs, repetitions);
     best_of.areas.pass(inputs, repetitions);
@@ -500,6 +511,7 @@ fn main() {
         dated: [f64::MAX; 3],
         order: [f64::MAX; 3],
         list: [f64::MAX; 3],
+        by_value: by_value::Best::new(),
         balances: balances::Best::new(),
         joins: joins::Best::new(),
         areas: areas::Best::new(),

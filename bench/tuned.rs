@@ -2,7 +2,7 @@
 //! where they stand, nothing copied, nothing allocated, a run that was just made not tested for order again. The same
 //! answers: bench/main.rs compares them before it measures.
 
-#[derive(Clone, PartialEq)]
+#[derive(Clone, Copy, PartialEq)]
 pub struct Run {
     pub trip: u64,
     pub x: [u64; 16],
@@ -512,6 +512,12 @@ pub fn total(run: &Run, fuel: u64, quantity: u64) -> (u64, u64) {
     if !in_order(run) {
         return (16, 0);
     }
+    total_of(run, fuel, quantity)
+}
+
+/// The same of a run in order.
+#[inline]
+pub fn total_of(run: &Run, fuel: u64, quantity: u64) -> (u64, u64) {
     if fuel.wrapping_sub(1) > 2 || quantity.wrapping_sub(1) > 4 {
         return (11, 0);
     }

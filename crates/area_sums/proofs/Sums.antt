@@ -9,7 +9,7 @@ use lib.ListN.{getD}
 use Rattle.units.specs.Lists.{allBelow}
 use Rattle.inventory.specs.Order.{gramsIn, restIn, totalGramsIn, totalRestIn, sumWithin, sumOk, isAmount, totalOk}
 use Rattle.inventory.specs.Limits.{AmountLimits}
-use Rattle.run_totals.proofs.Totals.{amount-passed, told}
+use Rattle.stored_totals.proofs.Carries.{amount-passed, told}
 use Rattle.run_sums.specs.Marks.{restMark}
 use Rattle.run_sums.proofs.Together.{Within, within-more, markIn}
 use Rattle.areas.specs.Numbers.{runAt}

@@ -33,7 +33,7 @@ fn total_ok(numbers: &[u64], at: usize, k: usize) -> bool
 {
     let g = at + 21 + k * 4;
     let r = at + 81 + k * 4;
-    run_totals::is_total(
+    stored_totals::is_total(
         Grams(numbers[at + 141 + k]),
         numbers[at + 156 + k],
         Grams(numbers[g]),

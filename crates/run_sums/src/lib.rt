@@ -113,5 +113,5 @@ pub fn sums_ok(run: Run) -> bool
     if !kinds_ok(run) {
         return false;
     }
-    run_totals::totals_ok(run)
+    stored_totals::totals_ok(run)
 }

@@ -9,6 +9,11 @@ use Rattle.inventory.specs.declared.Run.{Run}
 use Rattle.inventory.specs.Order.{totalOk}
 use Rattle.inventory.specs.Adding.{withTotals}
 
+-- a sum of a run in order, of which four are a total
+pub record SumLimits (g : Grams) (r : ℕ) : Type 0 where
+  pub grams : g .0 ≤ 5000000000000000
+  pub rest : r < 1000000000
+
 -- a run with these sums and these totals
 abbrev pub ofAmounts : List Grams → List ℕ → List Grams → List ℕ → Run
 ofAmounts grams rests total-grams total-rests =

@@ -1,11 +1,11 @@
--- `run_totals::is_total` meets its contract. Assumes nothing.
+-- `stored_totals::is_total` meets its contract. Assumes nothing.
 use mathlib.Core.Path.{ap, _∙_}
 use Prim.Native.Nat.{_+_}
-use Rattle.run_totals.specs.Carries.{restOk}
-use Rattle.run_totals.proofs.Totals.{total-by}
+use Rattle.stored_totals.specs.Carries.{restOk}
+use Rattle.stored_totals.proofs.Carries.{total-by}
 use borrow.Author.Needs.{needs}
-use Rattle.run_totals.proofs.is_total.Statement.{statement}
-use Rattle.run_totals.proofs.is_total.Tie as tie
+use Rattle.stored_totals.proofs.is_total.Statement.{statement}
+use Rattle.stored_totals.proofs.is_total.Tie as tie
 
 carry-of-requires : tie.Need-carry-of-requires
 carry-of-requires c κs = search needs

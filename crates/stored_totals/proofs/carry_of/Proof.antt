@@ -1,9 +1,9 @@
--- `run_totals::carry_of` meets its contract. Assumes nothing.
+-- `stored_totals::carry_of` meets its contract. Assumes nothing.
 use native.Mathlib.Omega.{arith}
-use Rattle.run_totals.proofs.Totals.{carry-low, carry-is}
+use Rattle.stored_totals.proofs.Carries.{carry-low, carry-is}
 use borrow.Author.Needs.{needs}
-use Rattle.run_totals.proofs.carry_of.Statement.{statement}
-use Rattle.run_totals.proofs.carry_of.Tie as tie
+use Rattle.stored_totals.proofs.carry_of.Statement.{statement}
+use Rattle.stored_totals.proofs.carry_of.Tie as tie
 
 add-kinds : tie.Need-add-kinds
 add-kinds c = search needs

@@ -1,4 +1,4 @@
--- `run_totals::totals_ok` meets its contract. Assumes nothing.
+-- `stored_totals::totals_ok` meets its contract. Assumes nothing.
 use mathlib.Core.Path.{_≡_, refl, sym, _∙_}
 use mathlib.Core.Bool.{true}
 use Prim.Native.Nat.{_-_, _≤_}
@@ -9,10 +9,10 @@ use Rattle.units.proofs.Tab.{Filled, filled-none, filled-more, filled}
 use Rattle.units.proofs.Tests.{more, fails, done}
 use Rattle.inventory.specs.Order.{totalOk}
 use Rattle.inventory.proofs.Order.{rest-passed}
-use Rattle.run_totals.proofs.Totals.{carryAt, grams-limit, too-much, told-at}
+use Rattle.stored_totals.proofs.Carries.{carryAt, grams-limit, too-much, told-at}
 use borrow.Author.Needs.{needs}
-use Rattle.run_totals.proofs.totals_ok.Statement.{statement}
-use Rattle.run_totals.proofs.totals_ok.Tie as tie
+use Rattle.stored_totals.proofs.totals_ok.Statement.{statement}
+use Rattle.stored_totals.proofs.totals_ok.Tie as tie
 
 abbrev Inv-loop : tie.InvT-loop
 Inv-loop run carries₀ i₀ carries i = (i ≤ 15) × Filled (carryAt run) 15 carries i

@@ -1,9 +1,8 @@
 -- What the test of a total goes by: its grams against those of its kinds, then its rest.
 -- Assumes nothing.
-use Prim.Native.Nat.{ℕ, _+_, _*_, _-_, _≤_, _<_}
+use Prim.Native.Nat.{ℕ, _+_, _*_, _-_}
 use mathlib.Core.Bool.{Bool, cond, _&&_}
 use lib.Dec.{leb, ltb, eqb}
-use Rattle.units.specs.declared.Grams.{Grams}
 
 -- what t grams are above n; 4, which four rests cannot carry, where they are below
 unfoldable pub carryOf : ℕ → ℕ → ℕ
@@ -12,8 +11,3 @@ carryOf t n = cond (leb n t) (t - n) 4
 -- a rest below its limit with a carry of at most 3 g is so many billionths
 unfoldable pub restOk : ℕ → ℕ → ℕ → Bool
 restOk carry rest sum = leb carry 3 && ltb rest 1000000000 && eqb (carry * 1000000000 + rest) sum
-
--- a sum of a run in order, of which four are a total
-pub record SumLimits (g : Grams) (r : ℕ) : Type 0 where
-  pub grams : g .0 ≤ 5000000000000000
-  pub rest : r < 1000000000

@@ -1,9 +1,9 @@
--- `run_totals::rest_ok` meets its contract. Assumes nothing.
+-- `stored_totals::rest_ok` meets its contract. Assumes nothing.
 use native.Mathlib.Omega.{arith}
-use Rattle.run_totals.proofs.Totals.{rest-over, rest-big, rest-is}
+use Rattle.stored_totals.proofs.Carries.{rest-over, rest-big, rest-is}
 use borrow.Author.Needs.{needs}
-use Rattle.run_totals.proofs.rest_ok.Statement.{statement}
-use Rattle.run_totals.proofs.rest_ok.Tie as tie
+use Rattle.stored_totals.proofs.rest_ok.Statement.{statement}
+use Rattle.stored_totals.proofs.rest_ok.Tie as tie
 
 returns : tie.Need-returns
 returns c = rest-over _ _ _ (omega arith)
