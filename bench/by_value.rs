@@ -58,7 +58,7 @@ fn surely_in_order(run: &tuned::Run) -> bool {
         let none = _mm_setzero_si128();
         let mut bits = Bits { grams: none, rests: none, marks: none, carries: none, faults: none };
         let four = |a: &[u64], j| [two(a, j), two(a, j + 2), two(a, j + 4), two(a, j + 6)];
-        for t in [0, 2, 4, 6, 8, 10, 12] {
+        for t in (0..14).step_by(2) {
             bits.put(four(&run.grams, t * 4), four(&run.rests, t * 4), two(&run.total_grams, t), two(&run.total_rests, t));
         }
         // the last total, beside one of nothing
