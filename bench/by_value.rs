@@ -1,5 +1,5 @@
-//! A total asked of a run that passes by value, as the archive takes it. (b) is here what we can write best by hand for that
-//! crossing: the test of order by `or` over two numbers at a time, in SSE2, which every x86-64 processor has.
+//! A total asked of a run that passes by value, as the archive takes it. (b) is here written for that crossing: the test of
+//! order by `or` over two numbers at a time, in SSE2, which every x86-64 processor has and no plain shape was compiled to.
 use super::*;
 use std::arch::x86_64::*;
 
@@ -73,11 +73,7 @@ fn surely_in_order(run: &tuned::Run) -> bool {
 }
 
 fn in_order(run: &tuned::Run) -> bool {
-    let head = (10..=200).contains(&run.trip) && run.count <= 5000 && run.x.iter().all(|&x| x <= 4_900_000_000);
-    if head && run.km.iter().all(|&km| km <= BILLION * run.count) && surely_in_order(run) {
-        return true;
-    }
-    tuned::in_order(run)
+    tuned::limits_in_order(run) && surely_in_order(run) || tuned::in_order(run)
 }
 
 #[allow(improper_ctypes_definitions)]

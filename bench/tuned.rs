@@ -160,7 +160,9 @@ pub fn open(head: &Head, run: &mut Run) -> u64 {
     0
 }
 
-pub fn in_order(run: &Run) -> bool {
+/// L, the records, the X and the kilometres within their limits.
+#[inline]
+pub fn limits_in_order(run: &Run) -> bool {
     if run.trip < 10 || 200 < run.trip || 5000 < run.count {
         return false;
     }
@@ -173,6 +175,13 @@ pub fn in_order(run: &Run) -> bool {
         if BILLION * run.count < km {
             return false;
         }
+    }
+    true
+}
+
+pub fn in_order(run: &Run) -> bool {
+    if !limits_in_order(run) {
+        return false;
     }
     // without records every sum is 0, which one number tells
     if run.count == 0 {
