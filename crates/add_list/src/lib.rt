@@ -1,4 +1,5 @@
 // A list of records added to a freshly opened run, with the claim of accuracy about it.
+#![tactic(auto)]
 ghost use Rattle.std.specs.Prelude.{◌≡◌, true};
 ghost use Rattle.units.specs.Refusals.{refusal_number, verdict_number};
 ghost use Rattle.inventory.specs.Order.{in_order};
@@ -13,14 +14,14 @@ use sums::WholeGrams;
 use units::{Refusal, Verdict};
 
 // The first refused record of a list: its place, from 1, and its number; 0 and 0 where none is refused.
-#[derive(Drop)]
+#[derive(Clone, Copy)]
 pub struct FirstRefused {
     pub place: usize,
     pub number: u64,
 }
 
 // What a list gives: the run after its records, whether head and list were taken, how many records were, and the first that was not.
-#[derive(Drop)]
+#[derive(Clone, Copy)]
 pub struct ListAdded {
     pub run: Run,
     pub verdict: Verdict,
@@ -29,7 +30,7 @@ pub struct ListAdded {
 }
 
 // The run after some records, and the first refused one of them.
-#[derive(Drop)]
+#[derive(Clone, Copy)]
 struct Progress {
     pub run: Run,
     pub first: FirstRefused,

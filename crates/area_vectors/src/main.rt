@@ -1,4 +1,5 @@
 // Makes the calls on areas that standard input lists, one to a line; tools/area_vectors.py has the expected answers.
+#![tactic(auto)]
 use inventory::{Head, Record, Run};
 use libc::STDOUT_FILENO;
 

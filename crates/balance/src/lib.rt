@@ -1,4 +1,5 @@
 // The balance of a run's totals against sold fuel.
+#![tactic(auto)]
 ghost use Rattle.std.specs.Prelude.{◌≡◌, ◌-◌, ◌≤◌, ◌<◌};
 ghost use Rattle.inventory.specs.Limits.{TotalLimits};
 ghost use Rattle.inventory.specs.Printed.{printed_total};
@@ -11,7 +12,7 @@ use units::{Grams, Refusal, Verdict};
 
 // The balance factor in millionths, the digits worked for it, and the balanced total.
 #[repr(C)]
-#[derive(Drop)]
+#[derive(Clone, Copy)]
 pub struct BalanceFigures {
     pub k: u64,
     pub digits: u64,
@@ -19,7 +20,7 @@ pub struct BalanceFigures {
 }
 
 // What a balance gives.
-#[derive(Drop)]
+#[derive(Clone, Copy)]
 pub enum Balanced {
     Given(BalanceFigures),
     Refused(Refusal),

@@ -1,4 +1,5 @@
 // The Gregorian calendar from 1980 to 2100, periods of a year, and what each month weighs in one.
+#![tactic(auto)]
 ghost use Rattle.std.specs.Prelude.{◌≡◌, ◌-◌, ◌≤◌, ◌<◌};
 ghost use Rattle.units.specs.Lists.{tab};
 ghost use Rattle.units.specs.Grounds.{first_fit};
@@ -10,21 +11,21 @@ ghost use Rattle.calendar.specs.Claim.{CalendarClaim};
 use units::{Refusal, Verdict};
 
 // A first and a last day, both included, each as year × 10,000 + month × 100 + day.
-#[derive(Drop)]
+#[derive(Clone, Copy)]
 pub struct Days {
     pub first: u64,
     pub last: u64,
 }
 
 // What a head covers: the whole year in twelfths, or the days from one date to another.
-#[derive(Drop)]
+#[derive(Clone, Copy)]
 pub enum Period {
     Year,
     Days(Days),
 }
 
 // What each month weighs, and all of them together.
-#[derive(Drop)]
+#[derive(Clone, Copy)]
 pub struct Weights {
     pub months: [u64; 12],
     pub whole: u64,

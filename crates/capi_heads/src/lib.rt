@@ -1,4 +1,5 @@
 // A head as it crosses from C, Rust and Python: numbers alone, 0 and 0 where there are no dates.
+#![tactic(auto)]
 ghost use Rattle.std.specs.Prelude.{◌≡◌};
 ghost use Rattle.capi_heads.specs.Heads.{head_from};
 
@@ -6,7 +7,7 @@ use inventory::Head;
 
 // A head whose dates, if it has any, are two numbers, each year × 10,000 + month × 100 + day.
 #[repr(C)]
-#[derive(Drop)]
+#[derive(Clone, Copy)]
 pub struct HeadNumbers {
     pub trip: u64,
     pub temps: [i64; 12],

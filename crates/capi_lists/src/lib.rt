@@ -1,4 +1,5 @@
 // The exports for C, Rust and Python that make a run of a list or a sheet. Answers are a number and values.
+#![tactic(auto)]
 ghost use Rattle.std.specs.Prelude.{◌≡◌};
 ghost use Rattle.sheet.specs.Sheet.{sheet_of};
 ghost use Rattle.capi_heads.specs.Heads.{head_from};
@@ -9,7 +10,7 @@ use inventory::Run;
 
 // A number, how many records were taken, the place and number of the first refused one, and a run.
 #[repr(C)]
-#[derive(Drop)]
+#[derive(Clone, Copy)]
 pub struct ListAnswer {
     pub number: u64,
     pub taken: u64,
@@ -20,7 +21,7 @@ pub struct ListAnswer {
 
 // A number and its line, both 0 where the sheet is taken, and a run.
 #[repr(C)]
-#[derive(Drop)]
+#[derive(Clone, Copy)]
 pub struct SheetAnswer {
     pub number: u64,
     pub line: usize,

@@ -1,4 +1,5 @@
 // The exports for C, Rust and Python that give the map's rows and figures. An answer is a number and values.
+#![tactic(auto)]
 ghost use Rattle.std.specs.Prelude.{◌≡◌};
 ghost use Rattle.inventory.specs.declared.Kind.{Kind};
 ghost use Rattle.map.specs.Map.{row_of, figure_answer, figure_of};
@@ -9,7 +10,7 @@ use map::{Figure, FigureAnswer, RowAnswer};
 
 // A number, 0 where it is given, and the printed kinds as floats.
 #[repr(C)]
-#[derive(Drop)]
+#[derive(Clone, Copy)]
 pub struct MapRow {
     pub number: u64,
     pub urban: f64,
@@ -20,7 +21,7 @@ pub struct MapRow {
 
 // A number, whether the figure is given (1) or not (0), and its grams.
 #[repr(C)]
-#[derive(Drop)]
+#[derive(Clone, Copy)]
 pub struct MapFigure {
     pub number: u64,
     pub given: u64,

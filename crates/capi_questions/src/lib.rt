@@ -1,4 +1,5 @@
 // The exports for C, Rust and Python that ask a run for grams. An answer is a number and values.
+#![tactic(auto)]
 ghost use Rattle.std.specs.Prelude.{◌≡◌};
 ghost use Rattle.inventory.specs.declared.Kind.{Kind};
 ghost use Rattle.inventory.specs.Printed.{printed_answer, total_of, kind_of};
@@ -12,7 +13,7 @@ use units::Grams;
 
 // A number, 0 where it is given, and grams.
 #[repr(C)]
-#[derive(Drop)]
+#[derive(Clone, Copy)]
 pub struct GramsAnswer {
     pub number: u64,
     pub grams: Grams,
@@ -20,7 +21,7 @@ pub struct GramsAnswer {
 
 // A number, 0 where it is given, the balance factor in millionths, the digits worked for it and the balanced total.
 #[repr(C)]
-#[derive(Drop)]
+#[derive(Clone, Copy)]
 pub struct BalanceAnswer {
     pub number: u64,
     pub k: u64,

@@ -1,4 +1,5 @@
 // The exports for C, Rust and Python over runs: opening, adding, order. Structs by value, answers as a number and values.
+#![tactic(auto)]
 ghost use Rattle.std.specs.Prelude.{◌≡◌};
 ghost use Rattle.inventory.specs.Order.{in_order};
 ghost use Rattle.inventory.specs.Opening.{open_number, open_run};
@@ -13,7 +14,7 @@ use inventory::{Record, Run};
 
 // The version of the structs' layout, and the size of a run in bytes.
 #[repr(C)]
-#[derive(Drop)]
+#[derive(Clone, Copy)]
 pub struct Layout {
     pub version: u64,
     pub size: u64,

@@ -1,4 +1,5 @@
 // The exports for C, Rust and Python that write a report into a lent buffer. An answer is a number and values.
+#![tactic(auto)]
 ghost use Rattle.std.specs.Prelude.{◌≡◌};
 ghost use Rattle.listing.specs.Report.{reported_answer, report_of, report_buffer};
 ghost use Rattle.reporting.specs.Reporting.{text_buffer};
@@ -9,7 +10,7 @@ use listing::Reported;
 
 // A number, 0 where it is written, and a length in bytes.
 #[repr(C)]
-#[derive(Drop)]
+#[derive(Clone, Copy)]
 pub struct LengthAnswer {
     pub number: u64,
     pub bytes: usize,
@@ -17,7 +18,7 @@ pub struct LengthAnswer {
 
 // A number, 0 where the text is written, its length in bytes, and the sheet's own number and line.
 #[repr(C)]
-#[derive(Drop)]
+#[derive(Clone, Copy)]
 pub struct TextAnswer {
     pub number: u64,
     pub bytes: usize,

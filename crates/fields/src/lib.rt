@@ -1,10 +1,11 @@
 // Fields of a text read as numbers: right-justified with spaces, without leading zeros.
+#![tactic(auto)]
 ghost use Rattle.std.specs.Prelude.{◌≡◌, length, drop};
 ghost use Rattle.fields.specs.Field.{parse, count_in};
 ghost use Rattle.fields.specs.Reading.{field_of, begun, Spaces};
 
 // What a field says: a number, a number below 0 by its size, or no number.
-#[derive(Drop)]
+#[derive(Clone, Copy)]
 pub enum Field {
     Plus(u64),
     Minus(u64),

@@ -1,4 +1,5 @@
 // The printed figures of a run as one table, so that the lines of the report need not take the whole run.
+#![tactic(auto)]
 ghost use Rattle.std.specs.Prelude.{◌≡◌};
 ghost use Rattle.inventory.specs.Order.{in_billionths};
 ghost use Rattle.inventory.specs.Limits.{AmountLimits, RunLimits, TotalLimits};
@@ -8,7 +9,7 @@ use inventory::Run;
 use units::Grams;
 
 // The printed figures of a fuel and a quantity.
-#[derive(Drop)]
+#[derive(Clone, Copy)]
 pub struct Row {
     pub urban: Grams,
     pub rural: Grams,
@@ -18,7 +19,7 @@ pub struct Row {
 }
 
 // The printed figures of a run: the row fuel × 5 + quantity, both from 0.
-#[derive(Drop)]
+#[derive(Clone, Copy)]
 pub struct Figures {
     pub rows: [Row; 15],
 }

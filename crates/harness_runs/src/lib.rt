@@ -1,4 +1,5 @@
 // What the test programs share about runs: a run set by hand, and the numbers of runs and answers.
+#![tactic(auto)]
 ghost use Rattle.std.specs.Prelude.{◌≡◌, min};
 ghost use Rattle.inventory.specs.Printed.{kind_place, printed_answer};
 ghost use Rattle.harness_runs.specs.Runs.{set_field, total_field, field_at};
@@ -7,7 +8,7 @@ use inventory::{Kind, Printed, Run};
 use units::{Grams, VehicleKm};
 
 // The number of an answer, 0 where it is given, and its grams, 0 where it is refused.
-#[derive(Drop)]
+#[derive(Clone, Copy)]
 pub struct Answer {
     pub number: u64,
     pub grams: Grams,

@@ -1,4 +1,5 @@
 // Joins runs, and asks what comes of it, as standard input lists it; tools/join_vectors.py has the expected answers.
+#![tactic(auto)]
 use balance::Balanced;
 use inventory::{Head, Printed, Record, Run};
 use libc::STDOUT_FILENO;
@@ -102,7 +103,7 @@ fn print_row_answer(a: RowAnswer) {
 }
 
 // Eight runs.
-#[derive(Drop)]
+#[derive(Clone, Copy)]
 struct Runs {
     all: [Run; 8],
 }

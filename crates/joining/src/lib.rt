@@ -1,4 +1,5 @@
 // Joining two runs into one.
+#![tactic(auto)]
 ghost use Rattle.std.specs.Prelude.{◌≡◌};
 ghost use Rattle.units.specs.Refusals.{verdict_number};
 ghost use Rattle.inventory.specs.Limits.{RunLimits, TotalLimits};

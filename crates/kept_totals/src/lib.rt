@@ -1,4 +1,5 @@
 // The totals that a run among lent numbers stores, made of its sums where they lie.
+#![tactic(auto)]
 ghost use Rattle.std.specs.Prelude.{◌≡◌, ◌+◌, ◌≤◌, length};
 ghost use Rattle.inventory.specs.Limits.{RunLimits};
 ghost use Rattle.inventory.specs.Adding.{with_totals};

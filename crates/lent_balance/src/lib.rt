@@ -1,4 +1,5 @@
 // The balance of a lent run's totals against sold fuel.
+#![tactic(auto)]
 ghost use Rattle.std.specs.Prelude.{◌≡◌, ◌-◌};
 ghost use Rattle.inventory.specs.Printed.{printed_total};
 ghost use Rattle.balance.specs.Balance.{balanced_answer, balance_of, BalanceNear, printed_fuel};

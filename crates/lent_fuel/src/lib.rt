@@ -1,4 +1,5 @@
 // CO2, SO2 and lead from the fuel of a lent run.
+#![tactic(auto)]
 ghost use Rattle.std.specs.Prelude.{◌≡◌};
 ghost use Rattle.inventory.specs.Printed.{printed_answer};
 ghost use Rattle.fuel.specs.FromFuel.{co2_of, so2_of, lead_of};

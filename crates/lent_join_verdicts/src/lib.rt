@@ -1,4 +1,5 @@
 // Whether two runs that a caller lends are joined, tested where they lie: no run is copied.
+#![tactic(auto)]
 ghost use Rattle.std.specs.Prelude.{◌≡◌, ◌≤◌, length};
 ghost use Rattle.units.specs.Refusals.{verdict_number};
 ghost use Rattle.inventory.specs.Order.{same_head};

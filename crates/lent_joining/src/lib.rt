@@ -1,4 +1,5 @@
 // Joining a run that a caller lends to another that is lent, which becomes the run of both where it lies: no run is copied.
+#![tactic(auto)]
 ghost use Rattle.std.specs.Prelude.{◌≡◌, length};
 ghost use Rattle.units.specs.Refusals.{verdict_number};
 ghost use Rattle.inventory.specs.Limits.{RunLimits, TotalLimits};

@@ -1,4 +1,5 @@
 // The report of a run that a caller lends, written into a lent buffer.
+#![tactic(auto)]
 ghost use Rattle.std.specs.Prelude.{◌≡◌, ◌≤◌, length};
 ghost use Rattle.inventory.specs.Limits.{RunLimits, TotalLimits};
 ghost use Rattle.figures.specs.Table.{figures};

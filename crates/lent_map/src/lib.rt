@@ -1,4 +1,5 @@
 // The map's rows of four floats, and one figure, of a lent run.
+#![tactic(auto)]
 ghost use Rattle.std.specs.Prelude.{◌≡◌};
 ghost use Rattle.map.specs.Floats.{AllExact};
 ghost use Rattle.map.specs.Map.{row_answer, row_of, row_whole, figure_answer, figure_of, figure_whole};

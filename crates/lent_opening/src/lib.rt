@@ -1,4 +1,5 @@
 // Opening a run where a caller lends it: no run is copied.
+#![tactic(auto)]
 ghost use Rattle.std.specs.Prelude.{◌≡◌, length};
 ghost use Rattle.units.specs.Refusals.{verdict_number};
 ghost use Rattle.inventory.specs.Opening.{zero_run};

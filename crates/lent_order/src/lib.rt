@@ -1,4 +1,5 @@
 // Whether a run that a caller lends is in order, tested where it lies: no run is copied.
+#![tactic(auto)]
 ghost use Rattle.std.specs.Prelude.{◌≡◌, ◌+◌, ◌≤◌, length};
 ghost use Rattle.units.specs.Lists.{all_below};
 ghost use Rattle.inventory.specs.Order.{in_order, km_ok};

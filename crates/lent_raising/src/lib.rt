@@ -1,4 +1,5 @@
 // A record that is taken, added where the run lies among lent numbers: only the numbers of its fuel and the count are written.
+#![tactic(auto)]
 ghost use Rattle.std.specs.Prelude.{◌≡◌, cond, ◌+◌, ◌≤◌, ◌<◌, length};
 ghost use Rattle.classes.specs.Classes.{has_cold};
 ghost use Rattle.coldstart.specs.ColdStart.{cold_factor};

@@ -1,4 +1,5 @@
 // Adding a record to a run that a caller lends, changed where it lies.
+#![tactic(auto)]
 ghost use Rattle.std.specs.Prelude.{◌≡◌, true, ◌+◌, ◌≤◌, ◌<◌, length};
 ghost use Rattle.units.specs.Refusals.{verdict_number};
 ghost use Rattle.inventory.specs.Order.{in_order};

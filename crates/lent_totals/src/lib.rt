@@ -1,4 +1,5 @@
 // The printed kinds and totals of a run that a caller lends, read where it lies.
+#![tactic(auto)]
 ghost use Rattle.std.specs.Prelude.{◌≡◌, ◌≤◌, ◌<◌, length};
 ghost use Rattle.units.specs.Refusals.{verdict_number};
 ghost use Rattle.units.specs.Grounds.{first_fit};

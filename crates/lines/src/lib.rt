@@ -1,4 +1,5 @@
 // The numbers of a line of a sheet: the head of line 1, and the record of any other line.
+#![tactic(auto)]
 ghost use Rattle.std.specs.Prelude.{◌≡◌, false, ◌+◌, ◌≤◌, length, take, drop, replicate};
 ghost use Rattle.std.proofs.Math.Option.{none};
 ghost use Rattle.fields.specs.Field.{count_in};
@@ -12,21 +13,21 @@ use inventory::{Head, Record, Shares, Speeds};
 use units::Speed;
 
 // A number with a sign, or none.
-#[derive(Drop)]
+#[derive(Clone, Copy)]
 enum Signed {
     Value(i64),
     Bad,
 }
 
 // Twelve temperatures, and whether their fields are numbers.
-#[derive(Drop)]
+#[derive(Clone, Copy)]
 struct Temps {
     pub ok: bool,
     pub temps: [i64; 12],
 }
 
 // A head, whether it was read, and the bytes of its line with LF, 0 where it was not.
-#[derive(Drop)]
+#[derive(Clone, Copy)]
 pub struct HeadLine {
     pub ok: bool,
     pub head: Head,
@@ -34,7 +35,7 @@ pub struct HeadLine {
 }
 
 // A record, and whether its fields are numbers.
-#[derive(Drop)]
+#[derive(Clone, Copy)]
 pub struct RecordLine {
     pub ok: bool,
     pub rec: Record,

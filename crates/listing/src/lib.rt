@@ -1,4 +1,5 @@
 // The report of a run, written into a lent buffer.
+#![tactic(auto)]
 ghost use Rattle.std.specs.Prelude.{◌≡◌, ◌≤◌, length};
 ghost use Rattle.std.proofs.lemmas.List.Edits.{sets};
 ghost use Rattle.listing.specs.Report.{lines_of, reported_answer, report_of, report_buffer};
@@ -9,7 +10,7 @@ use inventory::Run;
 use units::Refusal;
 
 // What writing a report gives: its length in bytes, or the refusal.
-#[derive(Drop)]
+#[derive(Clone, Copy)]
 pub enum Reported {
     Written(usize),
     Refused(Refusal),

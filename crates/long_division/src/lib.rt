@@ -1,4 +1,5 @@
 // A long division that ends at the remainder 0, and the digits it worked.
+#![tactic(auto)]
 ghost use Rattle.std.specs.Prelude.{◌≡◌, ◌*◌, ◌-◌, ◌/◌, ◌^◌, ◌≤◌, ◌<◌};
 ghost use Rattle.long_division.specs.Digits.{division_of, ratio_of, SmallRatio};
 ghost use Rattle.long_division.specs.Claim.{DigitsClaim};
@@ -6,7 +7,7 @@ ghost use Rattle.long_division.specs.Claim.{DigitsClaim};
 use units::Grams;
 
 // Where a division has ended: S × 10^digits over F.
-#[derive(Drop)]
+#[derive(Clone, Copy)]
 struct Division {
     quotient: u64,
     remainder: u64,
@@ -14,7 +15,7 @@ struct Division {
 }
 
 // S × 10^12 / F, half up, and the digits worked.
-#[derive(Drop)]
+#[derive(Clone, Copy)]
 pub struct Ratio {
     pub k: u64,
     pub digits: u64,

@@ -1,4 +1,5 @@
 // The map's rows of four floats, and one figure.
+#![tactic(auto)]
 ghost use Rattle.std.specs.Prelude.{◌≡◌, ◌<◌, ◌^◌};
 ghost use Rattle.map.specs.Floats.{Exactly, AllExact};
 ghost use Rattle.map.specs.Claim.{FigureClaim};
@@ -9,7 +10,7 @@ use units::{Grams, Refusal, Verdict};
 
 // The printed kinds of one fuel and quantity, in grams.
 #[repr(C)]
-#[derive(Drop)]
+#[derive(Clone, Copy)]
 pub struct Row {
     pub urban: f64,
     pub rural: f64,
@@ -18,21 +19,21 @@ pub struct Row {
 }
 
 // A row, or the refusal and no float.
-#[derive(Drop)]
+#[derive(Clone, Copy)]
 pub enum RowAnswer {
     Given(Row),
     Refused(Refusal),
 }
 
 // A figure for the map: a float of grams, or the mark "not given".
-#[derive(Drop)]
+#[derive(Clone, Copy)]
 pub enum Figure {
     Grams(f64),
     NotGiven,
 }
 
 // A figure, or the refusal and no float.
-#[derive(Drop)]
+#[derive(Clone, Copy)]
 pub enum FigureAnswer {
     Given(Figure),
     Refused(Refusal),

@@ -1,4 +1,5 @@
 // Asks for CO2, SO2, lead, rows and figures as standard input lists them; tools/questions.py has the expected answers.
+#![tactic(auto)]
 use inventory::{Head, Printed, Record, Run};
 use libc::STDOUT_FILENO;
 use map::{Figure, FigureAnswer, Row, RowAnswer};

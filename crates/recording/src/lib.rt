@@ -1,4 +1,5 @@
 // Opening a run and adding records to it.
+#![tactic(auto)]
 ghost use Rattle.std.specs.Prelude.{◌≡◌, ◌<◌, true};
 ghost use Rattle.units.specs.Grounds.{first_fit};
 ghost use Rattle.units.specs.Refusals.{verdict_number};

@@ -1,11 +1,12 @@
 // The program `report`: a sheet on standard input to its report on standard output; what fails is told on standard error.
+#![tactic(auto)]
 use libc::{EINTR, STDERR_FILENO, STDIN_FILENO, STDOUT_FILENO};
 
 // So often at most an interrupted call is tried again.
 const TRIES: usize = 1000000;
 
 // What came in: so many bytes up to the end or the limit, or a read that failed.
-#[derive(Drop)]
+#[derive(Clone, Copy)]
 enum Input {
     Bytes(usize),
     Failed,
@@ -38,7 +39,7 @@ fn read_input(input: &mut [u8]) -> Input {
 }
 
 // What went out: the whole text, or a part before a write that failed or that took no byte.
-#[derive(Drop)]
+#[derive(Clone, Copy)]
 enum Output {
     Whole,
     Failed,

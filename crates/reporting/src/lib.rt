@@ -1,4 +1,5 @@
 // The text of a sheet to the text of its report.
+#![tactic(auto)]
 ghost use Rattle.std.specs.Prelude.{◌≡◌};
 ghost use Rattle.units.specs.Refusals.{verdict_number};
 ghost use Rattle.listing.specs.Report.{reported_answer};
@@ -8,7 +9,7 @@ use listing::Reported;
 use units::{Refusal, Verdict};
 
 // The length of a sheet's text or the refusal of the buffer, and the sheet's own verdict and line (0 where it is taken).
-#[derive(Drop)]
+#[derive(Clone, Copy)]
 pub struct SheetText {
     pub text: Reported,
     pub verdict: Verdict,

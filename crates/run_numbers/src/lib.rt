@@ -1,4 +1,5 @@
 // A run among lent numbers, alone or one of sixteen areas: read from them, and written to them.
+#![tactic(auto)]
 ghost use Rattle.std.specs.Prelude.{◌≡◌, ◌+◌, ◌≤◌, length};
 ghost use Rattle.units.specs.Lists.{tab};
 ghost use Rattle.run_numbers.specs.Numbers.{number_at, km_at, grams_at, run_at, run_number};

@@ -1,4 +1,5 @@
 // The totals that a run stores, made of its sums.
+#![tactic(auto)]
 ghost use Rattle.std.specs.Prelude.{◌≡◌, ◌+◌, ◌≤◌};
 ghost use Rattle.inventory.specs.Order.{in_billionths};
 ghost use Rattle.inventory.specs.Adding.{billionths, with_totals};
@@ -9,7 +10,7 @@ use inventory::{Amount, Run};
 use units::Grams;
 
 // The whole grams and the rests of 15 totals.
-#[derive(Drop)]
+#[derive(Clone, Copy)]
 pub struct TotalAmounts {
     pub grams: [Grams; 15],
     pub rests: [u64; 15],

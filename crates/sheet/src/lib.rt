@@ -1,4 +1,5 @@
 // A sheet: a head line and record lines, read into a run.
+#![tactic(auto)]
 ghost use Rattle.std.specs.Prelude.{◌≡◌, true, ◌≤◌, length, drop};
 ghost use Rattle.units.specs.Refusals.{verdict_number, refusal_number};
 ghost use Rattle.inventory.specs.Order.{in_order};
@@ -11,7 +12,7 @@ use sums::WholeGrams;
 use units::{Refusal, Verdict};
 
 // What a sheet gives: line 0 where it is taken; else the refusal, its line from 1, and the run of zeros.
-#[derive(Drop)]
+#[derive(Clone, Copy)]
 pub struct Sheet {
     pub run: Run,
     pub verdict: Verdict,

@@ -4,6 +4,7 @@
 // `+ TIMES BYTES` and a line end, then that many bytes and a line end: the bytes stand so many times in the sheet.
 // `= LABEL` and a line end: the sheet is whole. Its answer is the label, the number, the line, and the word `zeros` for a
 // run of zeros, else every field of the run and the printed totals.
+#![tactic(auto)]
 use inventory::Run;
 use libc::STDOUT_FILENO;
 use sheet::Sheet;

@@ -1,4 +1,5 @@
 // The 60 sums with a record that is taken.
+#![tactic(auto)]
 ghost use Rattle.std.specs.Prelude.{◌≡◌, length};
 ghost use Rattle.units.specs.Lists.{tab};
 ghost use Rattle.inventory.specs.Limits.{RecordLimits, RunLimits};
@@ -9,7 +10,7 @@ use inventory::Record;
 use units::{Grams, VehicleKm};
 
 // The whole grams of the 60 sums, in a struct so that a loop can take them from a call without a copy of its own.
-#[derive(Drop)]
+#[derive(Clone, Copy)]
 pub struct WholeGrams {
     pub sums: [Grams; 60],
 }

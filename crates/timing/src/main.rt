@@ -1,4 +1,5 @@
 // Fills 400 runs with 5,000 records each and prints the sums: the time of an add, beside bench/add_in_place.rs.
+#![tactic(auto)]
 use calendar::Period;
 use inventory::{Head, Record, Run, Shares, Speeds};
 use units::Speed;

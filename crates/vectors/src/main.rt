@@ -1,4 +1,5 @@
 // Makes the calls that standard input lists, one to a line; tools/vectors.py has the expected answers.
+#![tactic(auto)]
 use balance::Balanced;
 use inventory::{Head, Kind, Printed, Record, Run};
 use libc::STDOUT_FILENO;
