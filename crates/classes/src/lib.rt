@@ -1,5 +1,6 @@
 // What a class is: its fuel, whether it has a cold part, and where its values X stand in a run.
 #![tactic(auto)]
+
 ghost use Rattle.std.specs.Prelude.{◌≡◌, ◌<◌};
 ghost use Rattle.classes.specs.Classes.{fuel_of, has_cold, x_place};
 
