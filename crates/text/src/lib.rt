@@ -1,5 +1,6 @@
 // Numbers as fields of a text: right-justified with spaces in so many bytes.
 #![tactic(auto)]
+
 ghost use Rattle.std.specs.Prelude.{◌≡◌, length};
 ghost use Rattle.text.specs.Render.{glyph_of, render};
 
