@@ -1,5 +1,6 @@
 // Fields of a text read as numbers: right-justified with spaces, without leading zeros.
 #![tactic(auto)]
+
 ghost use Rattle.std.specs.Prelude.{◌≡◌, length, drop};
 ghost use Rattle.fields.specs.Field.{parse, count_in};
 ghost use Rattle.fields.specs.Reading.{field_of, begun, Spaces};
