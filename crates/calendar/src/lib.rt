@@ -1,5 +1,6 @@
 // The Gregorian calendar from 1980 to 2100, periods of a year, and what each month weighs in one.
 #![tactic(auto)]
+
 ghost use Rattle.std.specs.Prelude.{◌≡◌, ◌-◌, ◌≤◌, ◌<◌};
 ghost use Rattle.units.specs.Lists.{tab};
 ghost use Rattle.units.specs.Grounds.{first_fit};
