@@ -1,5 +1,6 @@
 // What the test programs share about a line of standard input: its words and numbers.
 #![tactic(auto)]
+
 ghost use Rattle.std.specs.Prelude.{◌≡◌};
 ghost use Rattle.harness_lines.specs.Lines.{byte_at, place_behind, line_end, word_place, with_digit, number_from, as_positive, as_negative, number_at, signed_at};
 
