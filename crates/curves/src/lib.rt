@@ -1,5 +1,6 @@
 // Values of curves of the second degree over signed coefficients; the rows are lent.
 #![tactic(auto)]
+
 ghost use Rattle.std.specs.Prelude.{◌≡◌, [], ◌∷◌, nat_abs};
 ghost use Rattle.units.specs.Lists.{tab};
 ghost use Rattle.curves.specs.Curves.{Small, SmallRows, quadratic, value_at};
