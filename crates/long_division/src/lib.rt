@@ -1,5 +1,6 @@
 // A long division that ends at the remainder 0, and the digits it worked.
 #![tactic(auto)]
+
 ghost use Rattle.std.specs.Prelude.{◌≡◌, ◌*◌, ◌-◌, ◌/◌, ◌^◌, ◌≤◌, ◌<◌};
 ghost use Rattle.long_division.specs.Digits.{division_of, ratio_of, SmallRatio};
 ghost use Rattle.long_division.specs.Claim.{DigitsClaim};
