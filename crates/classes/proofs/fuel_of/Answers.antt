@@ -1,5 +1,4 @@
 -- `classes::fuel_of` meets its contract. Assumes nothing.
-use Rattle.std.proofs.Common.{rules}
 use borrow.Author.Tests.{eq-eqb, ne_eqb, le-leb, lt-leb}
 use Rattle.classes.specs.Classes.{fuel_of}
 use Rattle.classes.proofs.fuel_of.Goals as goal

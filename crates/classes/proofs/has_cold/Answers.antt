@@ -1,5 +1,4 @@
 -- `classes::has_cold` meets its contract. Assumes nothing.
-use Rattle.std.proofs.Common.{rules}
 use borrow.Author.Tests.{eq-eqb, ne_eqb}
 use Rattle.classes.specs.Classes.{has_cold}
 use Rattle.classes.proofs.has_cold.Goals as goal

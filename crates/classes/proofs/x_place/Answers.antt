@@ -1,13 +1,12 @@
 -- `classes::x_place` meets its contract. Assumes nothing.
-use Rattle.std.proofs.Common.{rules}
 use mathlib.Core.Path.{◌≡◌, ap, sym, ◌∙◌}
-use mathlib.Core.Logic.{⊎_elim}
 use Prim.Native.Nat.{◌+◌, ◌*◌}
 use native.Mathlib.Omega.{arith}
 use borrow.Author.Tests.{eq-eqb}
 use Rattle.classes.specs.Classes.{has_own_x, x_place}
 use Rattle.classes.proofs.Classes.{fuel_below, other_place}
 use Rattle.classes.proofs.x_place.Goals as goal
+use Rattle.classes.proofs.x_place.Goals.{then-class-eq3+else-quantity-eq0, else-class-eq3}
 
 pub returns-then-quantity-eq0 : goal.returns-then-quantity-eq0
 unfolding x_place has_own_x
@@ -21,5 +20,5 @@ overflow_add-result c = omega (arith, c.fuel_of.ensures, fuel_below c.args.class
 
 pub returns : goal.returns
 returns c =
-    let other : c.args.class ≡ 3 → c.args.quantity ≡ 0 → ⊥ = λ a b. ⊎_elim (λ t. t.1.left b) (λ e. e.left a) c.if-class-eq3.branch in
+    let other : c.args.class ≡ 3 → c.args.quantity ≡ 0 → ⊥ = λ a b. elim c.if-class-eq3.branch [ then-class-eq3+else-quantity-eq0 w ↦ w.if-quantity-eq0.false b | else-class-eq3 w ↦ w.if-class-eq3.false a ] in
     ap (λ f. f * 5 + c.args.quantity) c.fuel_of.ensures ∙ sym (other_place c.args.class c.args.quantity other)
