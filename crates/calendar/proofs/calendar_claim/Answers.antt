@@ -1,5 +1,4 @@
 -- `calendar::calendar_claim` meets its contract. Assumes nothing.
-use Rattle.std.proofs.Common.{rules}
 use Rattle.calendar.proofs.Claim.{calendar_claim}
 use Rattle.calendar.proofs.calendar_claim.Goals as goal
 

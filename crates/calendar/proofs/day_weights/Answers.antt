@@ -1,11 +1,9 @@
 -- `calendar::day_weights` meets its contract. Assumes nothing.
-use Rattle.std.proofs.Common.{rules}
-use Prim.Native.Nat.{◌*◌, ◌-◌, ◌≤◌}
 use mathlib.Core.Path.{◌≡◌, refl, sym, ap, ◌∙◌}
 use native.Mathlib.Omega.{arith}
 use Rattle.units.specs.Lists.{sum_to}
 use Rattle.units.proofs.Rounds.{sum_more}
-use Rattle.units.proofs.Tab.{Filled, filled_none, filled_more, filled}
+use Rattle.units.proofs.Tab.{filled_none, filled_more, filled}
 use Rattle.calendar.specs.Periods.{days_in}
 use Rattle.calendar.proofs.Laws.{days_most, weights_sum}
 use Rattle.calendar.proofs.day_weights.Goals as goal
@@ -34,4 +32,7 @@ pub returns : goal.returns
 returns c =
     let l = c.loop-k in
     let e : l.k ≡ 12 = omega (arith, l.invariant.0, c.loop-k-test.false) in
-    (filled l.invariant.3 l.invariant.0 c.loop-k-test.false, l.invariant.2 ∙ ap (sum_to (days_in c.args.d)) e ∙ weights_sum _ c.requires)
+    record {
+      months = filled l.invariant.3 l.invariant.0 c.loop-k-test.false;
+      whole = l.invariant.2 ∙ ap (sum_to (days_in c.args.d)) e ∙ weights_sum _ c.requires;
+    }

@@ -1,12 +1,9 @@
 -- What the loops of `calendar::day_weights` keep. Assumes nothing.
 use Prim.Native.Nat.{◌*◌, ◌-◌, ◌≤◌}
-use mathlib.Core.Path.{◌≡◌, refl, sym, ap, ◌∙◌}
-use native.Mathlib.Omega.{arith}
+use mathlib.Core.Path.{◌≡◌}
 use Rattle.units.specs.Lists.{sum_to}
-use Rattle.units.proofs.Rounds.{sum_more}
-use Rattle.units.proofs.Tab.{Filled, filled_none, filled_more, filled}
+use Rattle.units.proofs.Tab.{Filled}
 use Rattle.calendar.specs.Periods.{days_in}
-use Rattle.calendar.proofs.Laws.{days_most, weights_sum}
 use Rattle.calendar.proofs.day_weights.Given as goal
 
 abbrev pub invariant-loop-k : goal.invariant-loop-k

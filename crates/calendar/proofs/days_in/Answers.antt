@@ -1,5 +1,4 @@
 -- `calendar::days_in` meets its contract. Assumes nothing.
-use Rattle.std.proofs.Common.{rules}
 use mathlib.Core.Path.{sym, ◌∙◌}
 use Rattle.calendar.proofs.Counts.{days_in_lem}
 use Rattle.calendar.proofs.days_in.Goals as goal

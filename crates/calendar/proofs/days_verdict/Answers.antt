@@ -1,5 +1,4 @@
 -- `calendar::days_verdict` meets its contract. Assumes nothing.
-use Rattle.std.proofs.Common.{rules}
 use mathlib.Core.Path.{sym, ◌∙◌}
 use Rattle.units.specs.Refusals.{verdict_number, refusal_number}
 use Rattle.calendar.proofs.Grounds.{no_first, no_last, before_first, other_year, good_days}

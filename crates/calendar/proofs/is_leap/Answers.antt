@@ -1,5 +1,4 @@
 -- `calendar::is_leap` meets its contract. Assumes nothing.
-use Rattle.std.proofs.Common.{rules}
 use Rattle.calendar.proofs.Months.{no_fourth, no_century, century}
 use Rattle.calendar.proofs.is_leap.Goals as goal
 

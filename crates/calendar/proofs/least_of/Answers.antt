@@ -1,5 +1,4 @@
 -- `calendar::least_of` meets its contract. Assumes nothing.
-use Rattle.std.proofs.Common.{rules}
 use borrow.Author.Tests.{lt-ltb, le-ltb}
 use Rattle.calendar.proofs.least_of.Goals as goal
 

@@ -1,5 +1,4 @@
 -- `calendar::month_length` meets its contract. Assumes nothing.
-use Rattle.std.proofs.Common.{rules}
 use mathlib.Core.Path.{sym, ◌∙◌}
 use mathlib.Core.Bool.{true, false}
 use Rattle.calendar.proofs.Months.{second, other_months}

@@ -1,5 +1,4 @@
 -- `calendar::no_day` meets its contract. Assumes nothing.
-use Rattle.std.proofs.Common.{rules}
 use mathlib.Core.Path.{sym, ap, ◌∙◌}
 use Prim.Native.Nat.{ℕ}
 use Rattle.units.specs.Grounds.{outside}

@@ -1,5 +1,4 @@
 -- `calendar::period_from` meets its contract. Assumes nothing.
-use Rattle.std.proofs.Common.{rules}
 use Rattle.calendar.proofs.Grounds.{no_dates, last_alone, first_there}
 use Rattle.calendar.proofs.period_from.Goals as goal
 

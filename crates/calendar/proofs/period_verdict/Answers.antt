@@ -1,5 +1,4 @@
 -- `calendar::period_verdict` meets its contract. Assumes nothing.
-use Rattle.std.proofs.Common.{rules}
 use mathlib.Core.Path.{sym, ap, ◌∙◌}
 use Rattle.units.specs.Grounds.{first_fit}
 use Rattle.units.specs.Refusals.{verdict_number}

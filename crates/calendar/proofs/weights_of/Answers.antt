@@ -1,5 +1,4 @@
 -- `calendar::weights_of` meets its contract. Assumes nothing.
-use Rattle.std.proofs.Common.{rules}
 use mathlib.Core.Path.{sym, ap, ◌∙◌}
 use Rattle.units.specs.Lists.{tab}
 use Rattle.units.specs.Grounds.{first_fit}
@@ -14,9 +13,15 @@ pub returns-in-Year : goal.returns-in-Year
 unfolding tab
 returns-in-Year c =
     let e = sym c.in-Year.is in
-    (ap (λ (p : Period). tab (month_weight p) 12) e, ap period_weight e)
+    record {
+      months = ap (λ (p : Period). tab (month_weight p) 12) e;
+      whole = ap period_weight e;
+    }
 
 pub returns-in-Days : goal.returns-in-Days
 returns-in-Days c =
     let e = sym c.in-Days.is in
-    (c.day_weights.ensures.0 ∙ ap (λ (p : Period). tab (month_weight p) 12) e, c.day_weights.ensures.1 ∙ ap period_weight e)
+    record {
+      months = c.day_weights.ensures.months ∙ ap (λ (p : Period). tab (month_weight p) 12) e;
+      whole = c.day_weights.ensures.whole ∙ ap period_weight e;
+    }
