@@ -1,5 +1,6 @@
 // Cold starts: the cold share of the distance, the ratio cold to hot, and the cold factor.
 #![tactic(auto)]
+
 ghost use Rattle.std.specs.Prelude.{◌≡◌, true, ◌≤◌, nat_abs};
 ghost use Rattle.coldstart.specs.ColdStart.{cold_excess, cold_factor, cold_share, SlopeLimits, slope, temperature_ok, x_most};
 ghost use Rattle.coldstart.specs.Claim.{ShareClaim};
