@@ -1,5 +1,4 @@
 -- `harness_lines::behind` meets its contract. Assumes nothing.
-use Rattle.std.proofs.Common.{rules}
 use Rattle.harness_lines.proofs.Lines.{one_behind, none_behind}
 use Rattle.harness_lines.proofs.behind.Goals as goal
 

@@ -1,5 +1,4 @@
 -- `harness_lines::byte_at` meets its contract. Assumes nothing.
-use Rattle.std.proofs.Common.{rules}
 use Rattle.harness_lines.proofs.Lines.{byte_within, byte_beyond}
 use Rattle.harness_lines.proofs.byte_at.Goals as goal
 

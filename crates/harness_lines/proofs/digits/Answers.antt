@@ -1,12 +1,10 @@
 -- `harness_lines::digits` meets its contract. Assumes nothing.
-use Rattle.std.proofs.Common.{rules}
 use Prim.Native.Nat.{◌-◌}
-use mathlib.Core.Path.{◌≡◌, refl, sym, ap, ◌∙◌}
+use mathlib.Core.Path.{refl, sym, ap, ◌∙◌}
 use native.Mathlib.Omega.{arith}
-use lib.ListN.{length, drop}
 use Rattle.units.specs.Grounds.{outside}
 use Rattle.units.proofs.Tests.{inside_low}
-use Rattle.harness_lines.specs.Lines.{with_digit, digits_of, number_from}
+use Rattle.harness_lines.specs.Lines.{with_digit}
 use Rattle.harness_lines.proofs.Lines.{digits_next, digits_here, digits_behind}
 use Rattle.harness_lines.proofs.digits.Goals as goal
 

@@ -1,12 +1,8 @@
 -- What the loops of `harness_lines::digits` keep. Assumes nothing.
 use Prim.Native.Nat.{◌-◌}
-use mathlib.Core.Path.{◌≡◌, refl, sym, ap, ◌∙◌}
-use native.Mathlib.Omega.{arith}
+use mathlib.Core.Path.{◌≡◌}
 use lib.ListN.{length, drop}
-use Rattle.units.specs.Grounds.{outside}
-use Rattle.units.proofs.Tests.{inside_low}
-use Rattle.harness_lines.specs.Lines.{with_digit, digits_of, number_from}
-use Rattle.harness_lines.proofs.Lines.{digits_next, digits_here, digits_behind}
+use Rattle.harness_lines.specs.Lines.{digits_of, number_from}
 use Rattle.harness_lines.proofs.digits.Given as goal
 
 abbrev pub invariant-loop-i : goal.invariant-loop-i

@@ -1,9 +1,5 @@
 -- `harness_lines::line_end` meets its contract. Assumes nothing.
-use Rattle.std.proofs.Common.{rules}
-use Prim.Native.Nat.{◌-◌}
-use mathlib.Core.Path.{◌≡◌, refl, ◌∙◌}
-use lib.ListN.{length}
-use Rattle.harness_lines.specs.Lines.{line_end}
+use mathlib.Core.Path.{refl, ◌∙◌}
 use Rattle.harness_lines.proofs.Lines.{end_next, end_here, end_behind}
 use Rattle.harness_lines.proofs.line_end.Goals as goal
 

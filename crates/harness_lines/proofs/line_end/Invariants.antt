@@ -1,9 +1,8 @@
 -- What the loops of `harness_lines::line_end` keep. Assumes nothing.
 use Prim.Native.Nat.{◌-◌}
-use mathlib.Core.Path.{◌≡◌, refl, ◌∙◌}
+use mathlib.Core.Path.{◌≡◌}
 use lib.ListN.{length}
 use Rattle.harness_lines.specs.Lines.{line_end}
-use Rattle.harness_lines.proofs.Lines.{end_next, end_here, end_behind}
 use Rattle.harness_lines.proofs.line_end.Given as goal
 
 abbrev pub invariant-loop-i : goal.invariant-loop-i

@@ -1,5 +1,4 @@
 -- `harness_lines::negative` meets its contract. Assumes nothing.
-use Rattle.std.proofs.Common.{rules}
 use Rattle.harness_lines.proofs.Lines.{minus_none, complement}
 use Rattle.harness_lines.proofs.negative.Goals as goal
 

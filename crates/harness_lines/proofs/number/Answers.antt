@@ -1,6 +1,4 @@
 -- `harness_lines::number` meets its contract. Assumes nothing.
-use Rattle.std.proofs.Common.{rules}
-use mathlib.Core.Path.{◌≡◌, refl, sym, ◌∙◌}
 use Rattle.harness_lines.specs.Lines.{number_at}
 use Rattle.harness_lines.proofs.number.Goals as goal
 

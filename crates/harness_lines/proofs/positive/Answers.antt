@@ -1,5 +1,4 @@
 -- `harness_lines::positive` meets its contract. Assumes nothing.
-use Rattle.std.proofs.Common.{rules}
 use Rattle.harness_lines.proofs.Lines.{positive_held, positive_most}
 use Rattle.harness_lines.proofs.positive.Goals as goal
 

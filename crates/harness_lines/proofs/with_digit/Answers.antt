@@ -1,5 +1,4 @@
 -- `harness_lines::with_digit` meets its contract. Assumes nothing.
-use Rattle.std.proofs.Common.{rules}
 use native.Mathlib.Omega.{arith}
 use Rattle.harness_lines.proofs.Lines.{too_large, one_digit}
 use Rattle.harness_lines.proofs.with_digit.Goals as goal

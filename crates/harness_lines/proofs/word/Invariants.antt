@@ -1,10 +1,8 @@
 -- What the loops of `harness_lines::word` keep. Assumes nothing.
 use Prim.Native.Nat.{◌-◌}
-use mathlib.Core.Path.{◌≡◌, refl, ◌∙◌}
-use mathlib.Core.Logic.{⊎_elim}
+use mathlib.Core.Path.{◌≡◌}
 use lib.ListN.{length}
 use Rattle.harness_lines.specs.Lines.{word_place}
-use Rattle.harness_lines.proofs.Lines.{passed_space, passed_other, word_next, word_here, word_behind}
 use Rattle.harness_lines.proofs.word.Given as goal
 
 abbrev pub invariant-loop-i : goal.invariant-loop-i
