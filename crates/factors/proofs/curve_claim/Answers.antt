@@ -1,5 +1,4 @@
 -- `factors::curve_claim` does nothing: what it ensures is the theorem. Assumes nothing.
-use Rattle.std.proofs.Common.{rules}
 use Rattle.factors.proofs.Claim.{curve_claim}
 use Rattle.factors.proofs.curve_claim.Goals as goal
 

@@ -1,5 +1,4 @@
 -- `factors::curves_at` meets its contract. Assumes nothing.
-use Rattle.std.proofs.Common.{rules}
 use mathlib.Core.Path.{refl}
 use native.Mathlib.Nat.{add-zero}
 use Rattle.units.specs.Lists.{tab}

@@ -1,5 +1,4 @@
 -- `factors::curves_of` meets its contract: the code's constant is the table of specs/, and each class has its rows. Assumes nothing.
-use Rattle.std.proofs.Common.{rules}
 use native.Mathlib.Omega.{arith}
 use Rattle.units.specs.Lists.{tab}
 use Rattle.factors.specs.Factors.{coefficients, curves_of}

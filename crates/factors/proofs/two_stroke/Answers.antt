@@ -1,5 +1,4 @@
 -- `factors::two_stroke` meets its contract: the code's constant is the table of specs/. Assumes nothing.
-use Rattle.std.proofs.Common.{rules}
 use mathlib.Core.Path.{refl}
 use Rattle.factors.specs.Factors.{two_stroke}
 use Rattle.factors.proofs.two_stroke.Goals as goal
