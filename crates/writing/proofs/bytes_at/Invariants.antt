@@ -1,11 +1,8 @@
 -- What the loops of `writing::bytes_at` keep. Assumes nothing.
 use Prim.Native.Nat.{◌+◌, ◌-◌, ◌≤◌}
-use mathlib.Core.Path.{◌≡◌, refl, ◌∙◌}
-use native.Mathlib.Nat.{add-zero}
-use native.Mathlib.Omega.{arith}
-use lib.ListN.{length, drop, length-set, drop_of_length-le}
+use mathlib.Core.Path.{◌≡◌}
+use lib.ListN.{length, drop}
 use lib.Seq.{sets}
-use Rattle.writing.proofs.Stores.{copied}
 use Rattle.writing.proofs.bytes_at.Given as goal
 
 abbrev pub invariant-loop-i : goal.invariant-loop-i
