@@ -1,5 +1,6 @@
 // The entries of the factor book, computed from the curves.
 #![tactic(auto)]
+
 ghost use Rattle.std.specs.Prelude.{◌≡◌, ◌<◌};
 ghost use Rattle.book_entries.specs.Book.{class_at, entry_of};
 ghost use Rattle.book_entries.specs.Claim.{BookClaim};
