@@ -7,8 +7,8 @@ use native.Mathlib.Nat.{pow-succ', one-le-pow}
 use native.Mathlib.Omega.{arith}
 use lib.ListN.{length, get_or, drop, take, take-append-drop}
 use lib.Seq.{drop-cons}
-use lib.Dec.{ltb, leb, eqb}
-use borrow.Author.Tests.{ltb-true, leb-true, eqb-true, eqb-false, lt-ltb, ne_eqb, not-true}
+use lib.Dec.{ltb, eqb}
+use borrow.Author.Tests.{ltb-true, eqb-true, eqb-false, lt-ltb, ne_eqb, not-true}
 use Rattle.fields.specs.Field.{State, blank, signed, digits, wrong, is_digit, step, scan, said, parse}
 use Rattle.text.specs.Render.{glyph_of, pad, render, render_minus}
 use Rattle.fields.specs.declared.Field.TheVariants.{Plus, Minus, Bad}

@@ -1,10 +1,7 @@
 -- `fields::behind_spaces` meets its contract. Assumes nothing.
 use Rattle.std.proofs.Common.{rules}
-use Prim.Native.Nat.{◌≤◌, ◌-◌}
-use mathlib.Core.Path.{◌≡◌, refl, sym, ◌∙◌}
+use mathlib.Core.Path.{refl, sym, ◌∙◌}
 use native.Mathlib.Omega.{arith}
-use lib.ListN.{length, drop}
-use Rattle.fields.specs.Field.{blank, scan}
 use Rattle.fields.proofs.Read.{space}
 use Rattle.fields.proofs.behind_spaces.Goals as goal
 

@@ -1,10 +1,8 @@
 -- What the loops of `fields::behind_spaces` keep. Assumes nothing.
 use Prim.Native.Nat.{◌≤◌, ◌-◌}
-use mathlib.Core.Path.{◌≡◌, refl, sym, ◌∙◌}
-use native.Mathlib.Omega.{arith}
+use mathlib.Core.Path.{◌≡◌}
 use lib.ListN.{length, drop}
 use Rattle.fields.specs.Field.{blank, scan}
-use Rattle.fields.proofs.Read.{space}
 use Rattle.fields.proofs.behind_spaces.Given as goal
 
 abbrev pub invariant-loop-i : goal.invariant-loop-i

@@ -1,11 +1,8 @@
 -- `fields::digits_of` meets its contract. Assumes nothing.
-use Rattle.std.proofs.Common.{rules}
-use Prim.Native.Nat.{◌+◌, ◌-◌, ◌^◌, ◌≤◌, ◌<◌}
+use Prim.Native.Nat.{◌-◌}
 use mathlib.Core.Path.{◌≡◌, refl}
 use native.Mathlib.Omega.{arith}
-use lib.ListN.{length, drop}
-use Rattle.fields.specs.Reading.{begun}
-use Rattle.fields.proofs.Read.{below, digit_low, digit_high, ahead, nothing, zero_alone, zero_long, too_long, turn_bad, turn, turned}
+use Rattle.fields.proofs.Read.{below, digit_low, digit_high, nothing, zero_alone, zero_long, too_long, turn_bad, turn, turned}
 use Rattle.fields.proofs.digits_of.Goals as goal
 
 pub returns-then-f-at : goal.returns-then-f-at

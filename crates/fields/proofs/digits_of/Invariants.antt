@@ -1,10 +1,9 @@
 -- What the loops of `fields::digits_of` keep. Assumes nothing.
 use Prim.Native.Nat.{◌+◌, ◌-◌, ◌^◌, ◌≤◌, ◌<◌}
-use mathlib.Core.Path.{◌≡◌, refl}
-use native.Mathlib.Omega.{arith}
+use mathlib.Core.Path.{◌≡◌}
 use lib.ListN.{length, drop}
 use Rattle.fields.specs.Reading.{begun}
-use Rattle.fields.proofs.Read.{below, digit_low, digit_high, ahead, nothing, zero_alone, zero_long, too_long, turn_bad, turn, turned}
+use Rattle.fields.proofs.Read.{ahead}
 use Rattle.fields.proofs.digits_of.Given as goal
 
 abbrev pub invariant-loop-i : goal.invariant-loop-i

@@ -1,5 +1,4 @@
 -- `fields::read_count` meets its contract. Assumes nothing.
-use Rattle.std.proofs.Common.{rules}
 use Rattle.fields.proofs.Read.{said_count}
 use Rattle.fields.proofs.read_count.Goals as goal
 
