@@ -1,5 +1,4 @@
 -- `book_entries::book_claim` does nothing: what it ensures is the theorem. Assumes nothing.
-use Rattle.std.proofs.Common.{rules}
 use Rattle.book_entries.proofs.Book.{book_claim}
 use Rattle.book_entries.proofs.book_claim.Goals as goal
 

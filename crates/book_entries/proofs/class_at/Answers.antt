@@ -1,5 +1,4 @@
 -- `book_entries::class_at` meets its contract. Assumes nothing.
-use Rattle.std.proofs.Common.{rules}
 use mathlib.Core.Path.{sym}
 use Rattle.book_entries.proofs.Book.{first_four, last_two}
 use Rattle.book_entries.proofs.class_at.Goals as goal

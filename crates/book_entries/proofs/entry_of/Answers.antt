@@ -1,5 +1,4 @@
 -- `book_entries::entry_of` meets its contract. Assumes nothing.
-use Rattle.std.proofs.Common.{rules}
 use Prim.Native.Nat.{◌+◌, ◌/◌, ◌%◌}
 use native.Mathlib.Omega.{arith}
 use Rattle.book_entries.specs.Book.{class_at, entry_of}
@@ -7,7 +6,10 @@ use Rattle.book_entries.proofs.Book.{in_range, driven_roads, factor_curve}
 use Rattle.book_entries.proofs.entry_of.Goals as goal
 
 pub curve_factors-e-requires : goal.curve_factors-e-requires
-curve_factors-e-requires c = rw c.class_at-class.ensures (driven_roads _ _ (omega arith) (omega arith) (omega arith))
+curve_factors-e-requires c =
+    let i = c.args.i in
+    rw c.class_at-class.ensures
+    (let d = driven_roads (i / 605) (10 + i % 121) (omega arith) (omega arith) (omega arith) in record { driven = d.0; fact = d.1 })
 
 pub returns : goal.returns
 unfolding entry_of
