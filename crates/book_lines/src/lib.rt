@@ -1,5 +1,6 @@
 // Lines and pages of a lent table in the order of the factor book.
 #![tactic(auto)]
+
 ghost use Rattle.std.specs.Prelude.{◌≡◌, ◌+◌, ◌*◌, ◌<◌, get_or};
 ghost use Rattle.book_entries.specs.Book.{entry_place};
 ghost use Rattle.book_lines.specs.Lines.{Others, line_of, page_of};
