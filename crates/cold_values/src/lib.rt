@@ -1,5 +1,6 @@
 // The values X of a head.
 #![tactic(auto)]
+
 ghost use Rattle.std.specs.Prelude.{◌≡◌, true, ◌≤◌, ◌<◌};
 ghost use Rattle.units.specs.Lists.{tab};
 ghost use Rattle.classes.specs.Classes.{x_count};
