@@ -2,6 +2,7 @@
 // Page n of a lent table in the order of the factor book, each arm reading it at constant places, so that the compiler puts a
 // constant that is lent here into read-only memory. For that `page_at` must have one caller (docs/PERFORMANCE.md).
 #![tactic(auto)]
+
 ghost use Rattle.std.specs.Prelude.{◌≡◌, ◌<◌};
 ghost use Rattle.book_lines.specs.Lines.{page_of};
 
