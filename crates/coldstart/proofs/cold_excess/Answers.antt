@@ -1,5 +1,4 @@
 -- `coldstart::cold_excess` meets its contract. Assumes nothing.
-use Rattle.std.proofs.Common.{rules}
 use Rattle.coldstart.specs.ColdStart.{cold_ratio, cold_excess}
 use Rattle.units.proofs.Signed.{back, arg, cast, num, sub, mul, unsigned}
 use Rattle.coldstart.proofs.ColdStart.{temperature_size, negative, not_negative, cast_zero}

@@ -1,5 +1,4 @@
 -- `coldstart::cold_factor` meets its contract. Assumes nothing.
-use Rattle.std.proofs.Common.{rules}
 use native.Mathlib.Omega.{arith}
 use Rattle.units.specs.Rounding.{half_up}
 use Rattle.units.proofs.Rounds.{mul_most}

@@ -1,5 +1,4 @@
 -- `coldstart::share_claim` does nothing: what it ensures is the theorem. Assumes nothing.
-use Rattle.std.proofs.Common.{rules}
 use Rattle.coldstart.proofs.Claim.{share_claim}
 use Rattle.coldstart.proofs.share_claim.Goals as goal
 

@@ -1,5 +1,4 @@
 -- `coldstart::temperature_ok` meets its contract. Assumes nothing.
-use Rattle.std.proofs.Common.{rules}
 use lib.IntN.{pos, negsuc}
 use Rattle.units.proofs.Signed.{below_test, above_test}
 use Rattle.coldstart.specs.ColdStart.{temperature_ok}
