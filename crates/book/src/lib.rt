@@ -1,5 +1,6 @@
 // The factor book, and the 15 factors of a record read from it.
 #![tactic(auto)]
+
 ghost use Rattle.std.specs.Prelude.{◌≡◌, [], ◌∷◌, ◌-◌, ◌≤◌, ◌<◌, get_or};
 ghost use Rattle.units.specs.Lists.{tab};
 ghost use Rattle.factors.specs.Factors.{Driven, factor_at};

@@ -1,15 +1,12 @@
 -- `book::factor_book` meets its contract: antt computes the 3,630 entries of the book from the curves and compares them with the
 -- code's constant. Assumes nothing.
+use Rattle.std.proofs.Common.{rules}
 use Rattle.curves.specs.Curves.{quadratic}
 use Rattle.factors.specs.Factors.{coefficients, curve}
 use Rattle.book_entries.specs.Book.{class_at, entry_of}
 use Rattle.book.proofs.Computed.{listed_book}
-use Rattle.book.proofs.factor_book.Statement.{statement}
-use Rattle.book.proofs.factor_book.Tie as tie
+use Rattle.book.proofs.factor_book.Goals as goal
 
-returns : tie.Need-returns
+pub returns : goal.returns
 unfolding entry_of class_at curve quadratic coefficients
 returns c = listed_book
-
-pub factor-book-spec : {M : Type 1} → statement M
-factor-book-spec = tie.close (tie.spec returns)

@@ -1,0 +1,29 @@
+-- `book::factors_of` meets its contract. Assumes nothing.
+use Rattle.std.proofs.Common.{rules}
+use mathlib.Core.Path.{refl, ◌∙◌}
+use Prim.Native.Nat.{◌-◌, ◌≤◌}
+use native.Mathlib.Omega.{arith}
+use Rattle.units.specs.Lists.{tab}
+use Rattle.units.proofs.Tab.{Filled, filled_none, filled_more, filled}
+use Rattle.factors.proofs.Factors.{two_stroke_lem}
+use Rattle.book.proofs.Lines.{roads, road_line, lines_factors}
+use Rattle.book.proofs.factors_of.Goals as goal
+
+pub returns-then-class-eq5 : goal.returns-then-class-eq5
+returns-then-class-eq5 c = c.two_stroke.ensures ∙ two_stroke_lem _ _ _ _ c.if-class-eq5.true
+
+pub loop-road-init : goal.loop-road-init
+loop-road-init c = (omega arith, filled_none _ _ _ refl)
+
+pub line_of-line-requires : goal.line_of-line-requires
+line_of-line-requires c =
+    rw c.speed_on.ensures (roads _ _ _ _ c.requires.0 c.requires.1 c.requires.2 c.loop-road.road (omega arith), c.if-class-eq5.false)
+
+pub loop-road-preserved : goal.loop-road-preserved
+loop-road-preserved c = (omega arith, filled_more _ c.loop-road.invariant.1 (omega arith) (rw c.speed_on.ensures at c.line_of-line.ensures))
+
+pub returns : goal.returns
+unfolding tab
+returns c =
+    let lines = filled c.loop-road.invariant.1 (omega arith) (omega arith) in
+    lines_factors c.args.class _ _ _ _ c.requires.0 c.requires.1 c.requires.2 c.if-class-eq5.false lines

@@ -1,0 +1,32 @@
+-- `book::line_of` meets its contract. Assumes nothing.
+use Rattle.std.proofs.Common.{rules}
+use native.Mathlib.Omega.{arith}
+use Rattle.book_entries.specs.Book.{book}
+use Rattle.book_entries.proofs.Book.{placed}
+use Rattle.book.proofs.Lines.{page_line}
+use Rattle.book.proofs.line_of.Goals as goal
+
+pub overflow_mul-place : goal.overflow_mul-place
+overflow_mul-place c =
+    let p = placed c.args.class _ c.requires.driven c.requires.fact in
+    omega (arith, p.0, c.place_of-place.ensures)
+
+pub overflow_add-place : goal.overflow_add-place
+overflow_add-place c =
+    let p = placed c.args.class _ c.requires.driven c.requires.fact in
+    omega (arith, p.0, c.place_of-place.ensures, c.requires.driven.speed_high)
+
+pub page_of-p-requires : goal.page_of-p-requires
+page_of-p-requires c =
+    let p = placed c.args.class _ c.requires.driven c.requires.fact in
+    omega (arith, p.0, c.place_of-place.ensures, c.requires.driven.speed_high)
+
+pub returns-then-c-eq0 : goal.returns-then-c-eq0
+returns-then-c-eq0 c =
+    let e = c.place_of-place.ensures in
+    page_line book _ _ _ 0 (rw e at c.page_of-p.ensures) (omega (arith, c.requires.driven.speed_high)) (rw e at c.if-c-eq0.true)
+
+pub returns : goal.returns
+returns c =
+    let e = c.place_of-place.ensures in
+    page_line book _ _ _ 1 (rw e at c.page_of-p.ensures) (omega (arith, c.requires.driven.speed_high)) (omega (arith, e, c.if-c-eq0.false))

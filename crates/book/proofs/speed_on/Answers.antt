@@ -1,0 +1,8 @@
+-- `book::speed_on` meets its contract. Assumes nothing.
+use Rattle.std.proofs.Common.{rules}
+use mathlib.Core.Path.{◌≡◌, refl}
+use native.Mathlib.Omega.{arith}
+use Rattle.book.proofs.speed_on.Goals as goal
+
+pub returns-in_default : goal.returns-in_default
+returns-in_default c = let e : c.args.road ≡ 2 = omega arith in rw e refl
