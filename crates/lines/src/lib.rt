@@ -1,5 +1,6 @@
 // The numbers of a line of a sheet: the head of line 1, and the record of any other line.
 #![tactic(auto)]
+
 ghost use Rattle.std.specs.Prelude.{◌≡◌, false, ◌+◌, ◌≤◌, length, take, drop, replicate};
 ghost use Rattle.std.proofs.Math.Option.{none};
 ghost use Rattle.fields.specs.Field.{count_in};
