@@ -1,5 +1,6 @@
 // The totals that a run stores, made of its sums.
 #![tactic(auto)]
+
 ghost use Rattle.std.specs.Prelude.{◌≡◌, ◌+◌, ◌≤◌};
 ghost use Rattle.inventory.specs.Order.{in_billionths};
 ghost use Rattle.inventory.specs.Adding.{billionths, with_totals};
