@@ -1,6 +1,5 @@
 -- `book::factor_book` meets its contract: antt computes the 3,630 entries of the book from the curves and compares them with the
 -- code's constant. Assumes nothing.
-use Rattle.std.proofs.Common.{rules}
 use Rattle.curves.specs.Curves.{quadratic}
 use Rattle.factors.specs.Factors.{coefficients, curve}
 use Rattle.book_entries.specs.Book.{class_at, entry_of}

@@ -1,12 +1,10 @@
 -- `book::factors_of` meets its contract. Assumes nothing.
-use Rattle.std.proofs.Common.{rules}
 use mathlib.Core.Path.{refl, ◌∙◌}
-use Prim.Native.Nat.{◌-◌, ◌≤◌}
 use native.Mathlib.Omega.{arith}
 use Rattle.units.specs.Lists.{tab}
-use Rattle.units.proofs.Tab.{Filled, filled_none, filled_more, filled}
+use Rattle.units.proofs.Tab.{filled_none, filled_more, filled}
 use Rattle.factors.proofs.Factors.{two_stroke_lem}
-use Rattle.book.proofs.Lines.{roads, road_line, lines_factors}
+use Rattle.book.proofs.Lines.{roads, lines_factors}
 use Rattle.book.proofs.factors_of.Goals as goal
 
 pub returns-then-class-eq5 : goal.returns-then-class-eq5
@@ -17,7 +15,10 @@ loop-road-init c = (omega arith, filled_none _ _ _ refl)
 
 pub line_of-line-requires : goal.line_of-line-requires
 line_of-line-requires c =
-    rw c.speed_on.ensures (roads _ _ _ _ c.requires.0 c.requires.1 c.requires.2 c.loop-road.road (omega arith), c.if-class-eq5.false)
+    record {
+      driven = rw c.speed_on.ensures (roads _ _ _ _ c.requires.0 c.requires.1 c.requires.2 c.loop-road.road (omega arith));
+      fact = c.if-class-eq5.false;
+    }
 
 pub loop-road-preserved : goal.loop-road-preserved
 loop-road-preserved c = (omega arith, filled_more _ c.loop-road.invariant.1 (omega arith) (rw c.speed_on.ensures at c.line_of-line.ensures))

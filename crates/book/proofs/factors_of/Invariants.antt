@@ -1,11 +1,7 @@
 -- What the loops of `book::factors_of` keep. Assumes nothing.
-use mathlib.Core.Path.{refl, ◌∙◌}
 use Prim.Native.Nat.{◌-◌, ◌≤◌}
-use native.Mathlib.Omega.{arith}
-use Rattle.units.specs.Lists.{tab}
-use Rattle.units.proofs.Tab.{Filled, filled_none, filled_more, filled}
-use Rattle.factors.proofs.Factors.{two_stroke_lem}
-use Rattle.book.proofs.Lines.{roads, road_line, lines_factors}
+use Rattle.units.proofs.Tab.{Filled}
+use Rattle.book.proofs.Lines.{road_line}
 use Rattle.book.proofs.factors_of.Given as goal
 
 abbrev pub invariant-loop-road : goal.invariant-loop-road

@@ -1,5 +1,4 @@
 -- `book::line_of` meets its contract. Assumes nothing.
-use Rattle.std.proofs.Common.{rules}
 use native.Mathlib.Omega.{arith}
 use Rattle.book_entries.specs.Book.{book}
 use Rattle.book_entries.proofs.Book.{placed}

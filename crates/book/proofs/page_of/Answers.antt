@@ -1,5 +1,4 @@
 -- `book::page_of` meets its contract. Assumes nothing.
-use Rattle.std.proofs.Common.{rules}
 use Rattle.book.proofs.page_of.Goals as goal
 
 pub returns : goal.returns

@@ -1,5 +1,4 @@
 -- `book::place_of` meets its contract. Assumes nothing.
-use Rattle.std.proofs.Common.{rules}
 use borrow.Author.Tests.{lt-ltb, le-ltb}
 use Rattle.book_entries.specs.Book.{place_of}
 use Rattle.book.proofs.place_of.Goals as goal

@@ -1,5 +1,4 @@
 -- `book::speed_on` meets its contract. Assumes nothing.
-use Rattle.std.proofs.Common.{rules}
 use mathlib.Core.Path.{◌≡◌, refl}
 use native.Mathlib.Omega.{arith}
 use Rattle.book.proofs.speed_on.Goals as goal
