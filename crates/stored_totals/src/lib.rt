@@ -1,5 +1,6 @@
 // Whether the totals that a run stores are those of its sums.
 #![tactic(auto)]
+
 ghost use Rattle.std.specs.Prelude.{◌≡◌, true, ◌+◌, ◌<◌, ◌≤◌};
 ghost use Rattle.units.specs.Lists.{all_below};
 ghost use Rattle.inventory.specs.Order.{in_billionths, is_amount, sum_ok, total_ok};
