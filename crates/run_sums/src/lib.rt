@@ -1,5 +1,6 @@
 // Whether the sums and totals of a run are in order.
 #![tactic(auto)]
+
 ghost use Rattle.std.specs.Prelude.{◌≡◌, true, ◌≤◌};
 ghost use Rattle.units.specs.Lists.{all_below};
 ghost use Rattle.inventory.specs.Order.{sum_within, sum_ok, sums_ok};
