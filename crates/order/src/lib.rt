@@ -1,5 +1,6 @@
 // The test of a run's order.
 #![tactic(auto)]
+
 ghost use Rattle.std.specs.Prelude.{◌≡◌, ◌≤◌};
 ghost use Rattle.units.specs.Lists.{all_below};
 ghost use Rattle.classes.specs.Classes.{x_count};
