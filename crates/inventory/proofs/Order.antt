@@ -1,5 +1,5 @@
 -- Laws of `in_order`: what each test of `in_order` says of it, and what a run in order has. Assumes nothing.
-use mathlib.Core.Path.{◌≡◌, refl, ap, sym, ◌∙◌}
+use mathlib.Core.Path.{◌≡◌, refl}
 use mathlib.Core.Bool.{Bool, true, false, not, ◌&&◌}
 use Prim.Native.Nat.{ℕ, ◌+◌, ◌*◌, ◌/◌, ◌%◌, ◌<◌, ◌≤◌}
 use native.Mathlib.Omega.{arith}
@@ -10,7 +10,7 @@ use Rattle.units.specs.Grounds.{outside}
 use Rattle.units.proofs.Tests.{and_false, and_left, and_right, at, all, inside, inside_low, inside_high}
 use Rattle.classes.specs.Classes.{x_count}
 use Rattle.inventory.specs.declared.Run.{Run}
-use Rattle.inventory.specs.Order.{grams_in, rest_in, km_in, sum_at, place, exact_total, total_grams_in, total_rest_in, x_ok, sum_within, sum_ok, km_ok, is_amount, total_ok, sums_ok, in_order}
+use Rattle.inventory.specs.Order.{grams_in, rest_in, km_in, sum_at, place, exact_total, x_ok, sum_within, sum_ok, km_ok, is_amount, total_ok, sums_ok, in_order}
 use Rattle.inventory.specs.Limits.{XLimits, RunLimits, TotalLimits}
 
 -- ---- one sum

@@ -1,30 +1,26 @@
 -- Laws of printed kinds and totals. Assumes nothing.
-use mathlib.Core.Path.{◌≡◌, refl, ap, sym, ◌∙◌}
-use mathlib.Core.Bool.{Bool, true, false, not, cond}
-use mathlib.Core.List.{List, [], ◌∷◌}
-use Prim.Native.Nat.{ℕ, ◌+◌, ◌*◌, ◌-◌, ◌/◌, ◌%◌, ◌≤◌, ◌<◌}
+use mathlib.Core.Path.{◌≡◌, ap, sym, ◌∙◌}
+use mathlib.Core.Bool.{true, false}
+use Prim.Native.Nat.{ℕ, ◌+◌, ◌*◌, ◌/◌, ◌%◌, ◌≤◌, ◌<◌}
 use native.Mathlib.Omega.{arith}
-use lib.Dec.{lit<, eqb}
 use Rattle.units.specs.declared.Refusal.{Refusal}
 use Rattle.units.specs.declared.Verdict.{Verdict}
 use Rattle.units.specs.declared.Verdict.TheVariants.{Taken, Refused}
 use Rattle.units.specs.declared.Grams.{Grams}
-use Rattle.units.specs.Refusals.{refusal_number, verdict_number}
+use Rattle.units.specs.Refusals.{verdict_number}
 use Rattle.units.proofs.Refusals.{number_positive, taken_number, refused_number}
 use Rattle.units.proofs.Grounds.{passed}
 use Rattle.units.proofs.Tests.{inside_low, inside_high}
-use borrow.Author.Tests.{not-true, not-false}
-use Rattle.units.specs.Grounds.{first_fit, outside, ground}
+use borrow.Author.Tests.{not-false}
+use Rattle.units.specs.Grounds.{first_fit, outside}
 use Rattle.units.specs.Rounding.{half_up}
-use Rattle.units.proofs.Rounds.{half_up_high, half_up_low}
 use Rattle.inventory.specs.declared.Run.{Run}
 use Rattle.inventory.specs.Limits.{TotalLimits}
-use Rattle.inventory.specs.Order.{in_order, sum_at, place, exact_total, total_grams_in, total_rest_in}
+use Rattle.inventory.specs.Order.{in_order, sum_at, place, total_grams_in, total_rest_in}
 use Rattle.inventory.proofs.Order.{sum_at_most, exact_most}
-use Rattle.inventory.specs.Printed.{kind_place, printed_kind, printed_total, total_grounds, Answer, answered, printed_answer}
+use Rattle.inventory.specs.Printed.{kind_place, printed_kind, printed_total, total_grounds, answered, printed_answer}
 use Rattle.inventory.specs.declared.Kind.{Kind}
 use Rattle.inventory.specs.declared.Kind.TheVariants as kinds
-use Rattle.inventory.specs.declared.Printed.{Printed}
 use Rattle.inventory.specs.declared.Printed.TheVariants as printed
 
 -- whole grams come out of half up

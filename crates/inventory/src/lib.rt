@@ -1,5 +1,6 @@
 // Heads, records and runs. Their meaning stands in specs/, what is used of it in proofs/; the code is in the crates above.
 #![tactic(auto)]
+
 use calendar::Period;
 use units::{Grams, Refusal, Speed, VehicleKm, Verdict};
 
