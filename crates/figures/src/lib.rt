@@ -1,5 +1,6 @@
 // The printed figures of a run as one table, so that the lines of the report need not take the whole run.
 #![tactic(auto)]
+
 ghost use Rattle.std.specs.Prelude.{◌≡◌};
 ghost use Rattle.inventory.specs.Order.{in_billionths};
 ghost use Rattle.inventory.specs.Limits.{AmountLimits, RunLimits, TotalLimits};
