@@ -1,5 +1,6 @@
 // What the test programs share about runs: a run set by hand, and the numbers of runs and answers.
 #![tactic(auto)]
+
 ghost use Rattle.std.specs.Prelude.{◌≡◌, min};
 ghost use Rattle.inventory.specs.Printed.{kind_place, printed_answer};
 ghost use Rattle.harness_runs.specs.Runs.{set_field, total_field, field_at};
