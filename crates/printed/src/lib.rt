@@ -1,5 +1,6 @@
 // One printed kind and one printed total of a run in order, by its place.
 #![tactic(auto)]
+
 ghost use Rattle.std.specs.Prelude.{◌≡◌, ◌<◌};
 ghost use Rattle.units.specs.Rounding.{half_up};
 ghost use Rattle.inventory.specs.Order.{sum_at};
