@@ -1,5 +1,6 @@
 // Whether a head or a record is refused, and by which number.
 #![tactic(auto)]
+
 ghost use Rattle.std.specs.Prelude.{◌≡◌};
 ghost use Rattle.units.specs.Lists.{all_below};
 ghost use Rattle.units.specs.Grounds.{first_fit};
