@@ -40,13 +40,13 @@ pub three_in_one : (a b : Amount) (m n : ℕ) → a ≡ billionths m → b ≡ b
 three_in_one a b m n e f = f ∙ ap (λ x. billionths (x.grams.0 * 1000000000 + x.rest + n)) e ∙ one_more m n
 
 -- what is made of the four sums at k × 4 is the total k
-pub total_made : (run : Run) (k j : ℕ) (t : Amount) → j ≡ k * 4
+pub total_made_lem : (run : Run) (k j : ℕ) (t : Amount) → j ≡ k * 4
     → t ≡ billionths
     (grams_in run j * 1000000000 + rest_in run j + (grams_in run (j + 1) * 1000000000 + rest_in run (j + 1))
     + (grams_in run (j + 2) * 1000000000 + rest_in run (j + 2)) + (grams_in run (j + 3) * 1000000000 + rest_in run (j + 3)))
     → t ≡ total_made run k
 unfolding total_made
-total_made run k j t e h = h ∙ ap billionths (exact_at run k j e)
+total_made_lem run k j t e h = h ∙ ap billionths (exact_at run k j e)
 
 -- a sum of a run in order
 pub sum_limits : (run : Run) → RunLimits run → (i j : ℕ) → i < 60 → j < 60 → SumLimits (get_or run.grams i (record { 0 = 0 })) (rest_in run j)

@@ -5,7 +5,7 @@ use native.Mathlib.Omega.{arith}
 use Rattle.units.proofs.Between.{Between, between_none, between_more, length_of}
 use Rattle.inventory.specs.Adding.{total_grams_made, total_rest_made}
 use Rattle.run_totals.specs.Between.{of_amounts}
-use Rattle.run_totals.proofs.Totals.{sum_limits, total_made, made}
+use Rattle.run_totals.proofs.Totals.{sum_limits, total_made_lem, made}
 use Rattle.run_totals.proofs.totals_from.Given as goal
 
 abbrev pub invariant-loop-k : goal.invariant-loop-k
