@@ -1,5 +1,6 @@
 // One record of a list of numbers, nine a record.
 #![tactic(auto)]
+
 ghost use Rattle.std.specs.Prelude.{◌≡◌, ◌+◌, ◌≤◌, length};
 ghost use Rattle.list_records.specs.Record.{record_at};
 
