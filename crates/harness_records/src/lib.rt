@@ -1,5 +1,6 @@
 // What the test programs share about a line of standard input that holds a head or a record.
 #![tactic(auto)]
+
 ghost use Rattle.std.specs.Prelude.{◌≡◌};
 ghost use Rattle.harness_records.specs.Records.{head_at, record_at};
 
