@@ -1,5 +1,6 @@
 // One sum with the grams of one record: a hot part or a cold part, and the carry from its rest.
 #![tactic(auto)]
+
 ghost use Rattle.std.specs.Prelude.{◌≡◌, cond, ◌+◌, ◌*◌, ◌≤◌, ◌<◌};
 ghost use Rattle.classes.specs.Classes.{has_cold};
 ghost use Rattle.coldstart.specs.ColdStart.{cold_factor};
