@@ -1,7 +1,6 @@
 // Prints the factor book from the curves, one number a line: every class but 5, every quantity and every whole speed from 10 to
 // 130, in that order. Its stored output is the book, of which tools/book.py makes the constant.
 #![tactic(auto)]
-
 fn main() {
     let mut i: u64 = 0;
     while i < 3630 {
