@@ -1,6 +1,6 @@
 -- Laws of the rows of printed figures. Assumes nothing.
 use Prim.Native.Nat.{ℕ, ◌+◌, ◌*◌, ◌/◌, ◌%◌, ◌<◌}
-use mathlib.Core.Path.{◌≡◌, ◌∙◌}
+use mathlib.Core.Path.{◌≡◌}
 use native.Mathlib.Omega.{arith}
 use Rattle.units.specs.declared.Grams.{Grams}
 use Rattle.units.proofs.Tab.{tab_at}
@@ -33,13 +33,13 @@ row_made a p b q c r d s t u =
     }
 
 -- the row k from the four sums at k × 4 and the stored total k
-pub row_from : (run : Run) → TotalLimits run → (k j : ℕ) → k < 15 → j ≡ k * 4
+pub row_from_lem : (run : Run) → TotalLimits run → (k j : ℕ) → k < 15 → j ≡ k * 4
     → row_from (grams_in run j * 1000000000 + rest_in run j) (grams_in run (j + 1) * 1000000000 + rest_in run (j + 1))
     (grams_in run (j + 2) * 1000000000 + rest_in run (j + 2)) (grams_in run (j + 3) * 1000000000 + rest_in run (j + 3))
     (stored_total run k)
     ≡ row_at run k
 unfolding row_from printed_row printed_kind printed_total sum_at
-row_from run lim k j h e =
+row_from_lem run lim k j h e =
     let a : place (k / 5) (k % 5) 0 ≡ j = omega arith in
     let b : place (k / 5) (k % 5) 1 ≡ j + 1 = omega arith in
     let c : place (k / 5) (k % 5) 2 ≡ j + 2 = omega arith in

@@ -8,7 +8,7 @@ use Rattle.inventory.specs.Limits.{TotalLimits}
 use Rattle.inventory.specs.Order.{in_billionths, in_order}
 use Rattle.figures.specs.declared.Figures.{Figures}
 use Rattle.figures.specs.Table.{row_at, row_from, figures}
-use Rattle.figures.proofs.Rows.{row_from}
+use Rattle.figures.proofs.Rows.{row_from_lem}
 use Rattle.run_numbers.specs.Numbers.{grams_at, number_at, run_at}
 use Rattle.run_numbers.specs.Lent.{lent_run}
 use Rattle.run_numbers.proofs.Numbers.{grams_read, rest_read, total-grams_read, total_rest_read}
@@ -36,7 +36,7 @@ module _ (numbers : List ℕ) where
         rest_read numbers 0 (j + 3) (omega arith),
         total-grams_read numbers 0 k h,
         total_rest_read numbers 0 k h,
-      ) at (row_from (run_at numbers 0) lim k j h e)
+      ) at (row_from_lem (run_at numbers 0) lim k j h e)
 
   -- the table of the run at place 0 is that of the lent one
   pub lent_figures : in_order (lent_run numbers) ≡ true → (f : Figures) → f ≡ figures (run_at numbers 0) → f ≡ figures (lent_run numbers)

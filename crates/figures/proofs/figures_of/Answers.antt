@@ -1,11 +1,9 @@
 -- `figures::figures_of` meets its contract. Assumes nothing.
-use Rattle.std.proofs.Common.{rules}
-use Prim.Native.Nat.{◌+◌, ◌*◌, ◌-◌, ◌≤◌}
 use mathlib.Core.Path.{refl, ◌∙◌}
 use native.Mathlib.Omega.{arith}
-use Rattle.units.proofs.Tab.{Filled, filled_none, filled_more, filled}
-use Rattle.figures.specs.Table.{row_at, figures}
-use Rattle.figures.proofs.Rows.{row_from}
+use Rattle.units.proofs.Tab.{filled_none, filled_more, filled}
+use Rattle.figures.specs.Table.{figures}
+use Rattle.figures.proofs.Rows.{row_from_lem}
 use Rattle.inventory.proofs.Amounts.{sum_amount, total_amount}
 use Rattle.figures.proofs.figures_of.Goals as goal
 
@@ -26,7 +24,7 @@ pub loop-k-preserved : goal.loop-k-preserved
 loop-k-preserved c =
     let l = c.loop-k in
     let h = c.loop-k-test.true in
-    (omega arith, filled_more _ l.invariant.1 (omega arith) (c.row_from-row.ensures ∙ row_from c.args.run c.requires.1 l.k _ (omega arith) refl))
+    (omega arith, filled_more _ l.invariant.1 (omega arith) (c.row_from-row.ensures ∙ row_from_lem c.args.run c.requires.1 l.k _ (omega arith) refl))
 
 pub returns : goal.returns
 unfolding figures

@@ -1,11 +1,7 @@
 -- What the loops of `figures::figures_of` keep. Assumes nothing.
-use Prim.Native.Nat.{◌+◌, ◌*◌, ◌-◌, ◌≤◌}
-use mathlib.Core.Path.{refl, ◌∙◌}
-use native.Mathlib.Omega.{arith}
-use Rattle.units.proofs.Tab.{Filled, filled_none, filled_more, filled}
-use Rattle.figures.specs.Table.{row_at, figures}
-use Rattle.figures.proofs.Rows.{row_from}
-use Rattle.inventory.proofs.Amounts.{sum_amount, total_amount}
+use Prim.Native.Nat.{◌-◌, ◌≤◌}
+use Rattle.units.proofs.Tab.{Filled}
+use Rattle.figures.specs.Table.{row_at}
 use Rattle.figures.proofs.figures_of.Given as goal
 
 abbrev pub invariant-loop-k : goal.invariant-loop-k
