@@ -1,5 +1,4 @@
 -- `harness_runs::answer_of` meets its contract. Assumes nothing.
-use Rattle.std.proofs.Common.{rules}
 use mathlib.Core.Path.{refl}
 use Rattle.inventory.specs.Printed.{printed_answer}
 use Rattle.harness_runs.proofs.answer_of.Goals as goal

@@ -1,5 +1,4 @@
 -- `harness_runs::field_at` meets its contract. Assumes nothing.
-use Rattle.std.proofs.Common.{rules}
 use mathlib.Core.Path.{◌∙◌}
 use Rattle.harness_runs.proofs.Runs.{at_trip, at_x, at_count, at_km, at_total, at_grams, at_rest}
 use Rattle.harness_runs.proofs.field_at.Goals as goal

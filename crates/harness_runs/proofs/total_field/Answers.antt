@@ -1,5 +1,4 @@
 -- `harness_runs::total_field` meets its contract. Assumes nothing.
-use Rattle.std.proofs.Common.{rules}
 use Rattle.harness_runs.proofs.Runs.{no_total_field, total_grams, total_rest}
 use Rattle.harness_runs.proofs.total_field.Goals as goal
 
