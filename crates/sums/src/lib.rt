@@ -1,5 +1,6 @@
 // The 60 sums with a record that is taken.
 #![tactic(auto)]
+
 ghost use Rattle.std.specs.Prelude.{◌≡◌, length};
 ghost use Rattle.units.specs.Lists.{tab};
 ghost use Rattle.inventory.specs.Limits.{RecordLimits, RunLimits};
