@@ -1,5 +1,4 @@
 -- `run_totals::both` meets its contract. Assumes nothing.
-use Rattle.std.proofs.Common.{rules}
 use Rattle.run_totals.proofs.Totals.{carried}
 use Rattle.run_totals.proofs.both.Goals as goal
 

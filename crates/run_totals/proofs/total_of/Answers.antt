@@ -1,5 +1,4 @@
 -- `run_totals::total_of` meets its contract. Assumes nothing.
-use Rattle.std.proofs.Common.{rules}
 use native.Mathlib.Omega.{arith}
 use Rattle.run_totals.proofs.Totals.{amount_at, three_in_one}
 use Rattle.run_totals.proofs.total_of.Goals as goal

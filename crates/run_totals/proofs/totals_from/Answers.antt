@@ -1,10 +1,9 @@
 -- `run_totals::totals_from` meets its contract. Assumes nothing.
 use Rattle.std.proofs.Common.{rules}
 use mathlib.Core.Path.{refl, ap}
-use Prim.Native.Nat.{◌+◌, ◌*◌, ◌-◌, ◌≤◌}
+use Prim.Native.Nat.{◌*◌}
 use native.Mathlib.Omega.{arith}
-use Rattle.units.proofs.Between.{Between, between_none, between_more, length_of}
-use Rattle.inventory.specs.Adding.{total_grams_made, total_rest_made}
+use Rattle.units.proofs.Between.{between_none, between_more, length_of}
 use Rattle.run_totals.specs.Between.{of_amounts}
 use Rattle.run_totals.proofs.Totals.{sum_limits, total_made_lem, made}
 use Rattle.run_totals.proofs.totals_from.Goals as goal

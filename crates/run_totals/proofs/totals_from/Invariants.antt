@@ -1,11 +1,8 @@
 -- What the loops of `run_totals::totals_from` keep. Assumes nothing.
-use mathlib.Core.Path.{refl, ap}
-use Prim.Native.Nat.{◌+◌, ◌*◌, ◌-◌, ◌≤◌}
-use native.Mathlib.Omega.{arith}
-use Rattle.units.proofs.Between.{Between, between_none, between_more, length_of}
+use Prim.Native.Nat.{◌-◌, ◌≤◌}
+use Rattle.units.proofs.Between.{Between}
 use Rattle.inventory.specs.Adding.{total_grams_made, total_rest_made}
 use Rattle.run_totals.specs.Between.{of_amounts}
-use Rattle.run_totals.proofs.Totals.{sum_limits, total_made_lem, made}
 use Rattle.run_totals.proofs.totals_from.Given as goal
 
 abbrev pub invariant-loop-k : goal.invariant-loop-k

@@ -1,5 +1,4 @@
 -- `run_totals::with_totals` meets its contract. Assumes nothing.
-use Rattle.std.proofs.Common.{rules}
 use native.Mathlib.Omega.{arith}
 use Rattle.run_totals.proofs.Totals.{none_outside, amounts_limits, with_made}
 use Rattle.run_totals.proofs.with_totals.Goals as goal
