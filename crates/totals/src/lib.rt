@@ -1,5 +1,6 @@
 // The printed kinds and totals of a run.
 #![tactic(auto)]
+
 ghost use Rattle.std.specs.Prelude.{◌≡◌};
 ghost use Rattle.units.specs.Refusals.{verdict_number};
 ghost use Rattle.units.specs.Grounds.{first_fit};
