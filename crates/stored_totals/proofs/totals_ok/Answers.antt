@@ -13,22 +13,6 @@ use Rattle.inventory.proofs.Order.{rest_passed}
 use Rattle.stored_totals.proofs.Carries.{carry_at, grams_limit, too_much, told_at}
 use Rattle.stored_totals.proofs.totals_ok.Goals as goal
 
-element_copy_out_carry_of_2 :
-    tie.Need-element-copy-out-carry-of-2 invariant-loop decreases-loop invariant-loop2 decreases-loop2
-element_copy_out_carry_of_2 c = search rules
-
-element_copy_out_carry_of_3 :
-    tie.Need-element-copy-out-carry-of-3 invariant-loop decreases-loop invariant-loop2 decreases-loop2
-element_copy_out_carry_of_3 c = search rules
-
-element_copy_out_carry_of_4 :
-    tie.Need-element-copy-out-carry-of-4 invariant-loop decreases-loop invariant-loop2 decreases-loop2
-element_copy_out_carry_of_4 c = search rules
-
-element_copy_out_carry_of_5 :
-    tie.Need-element-copy-out-carry-of-5 invariant-loop decreases-loop invariant-loop2 decreases-loop2
-element_copy_out_carry_of_5 c = search rules
-
 pub loop-i-init : goal.loop-i-init
 loop-i-init c = (search rules, filled_none _ _ _ (search rules))
 
@@ -53,14 +37,14 @@ returns-then-not-rest_ok c =
     let k = c.loop-k.k in
     let h = c.loop-k-test.true in
     let f = c.loop-i.invariant in
-    let e = told_at c.args.run c.requires.1 _ _ k (filled f.1 f.0 (omega arith)) h c.rest_ok.ensures in sym (fails _ 15 k h (sym e ∙ not-true _ c.if-not-rest_ok.true))
+    let e = told_at c.args.run c.requires.1 _ _ k (filled f.1 f.0 (omega arith)) h c.rest_ok.ensures in sym (fails _ 15 k h (sym e ∙ c.if-not-rest_ok.true))
 
 pub loop-k-preserved : goal.loop-k-preserved
 loop-k-preserved c =
     let k = c.loop-k.k in
     let h = c.loop-k-test.true in
     let f = c.loop-i.invariant in
-    let e = told_at c.args.run c.requires.1 _ _ k (filled f.1 f.0 (omega arith)) h c.rest_ok.ensures in (omega (arith, h), more _ k c.loop-k.invariant.1 (sym e ∙ not-false _ c.if-not-rest_ok.false))
+    let e = told_at c.args.run c.requires.1 _ _ k (filled f.1 f.0 (omega arith)) h c.rest_ok.ensures in (omega (arith, h), more _ k c.loop-k.invariant.1 (sym e ∙ c.if-not-rest_ok.false))
 
 pub returns : goal.returns
 returns c = done _ 15 _ c.loop-k.invariant.1 (omega arith) (omega arith)
