@@ -1,5 +1,6 @@
 // Whether two runs are joined.
 #![tactic(auto)]
+
 ghost use Rattle.std.specs.Prelude.{◌≡◌};
 ghost use Rattle.units.specs.Refusals.{verdict_number};
 ghost use Rattle.inventory.specs.Order.{same_head};
