@@ -1,5 +1,4 @@
 -- `printed::kind_at` meets its contract. Assumes nothing.
-use Rattle.std.proofs.Common.{rules}
 use native.Mathlib.Omega.{arith}
 use Rattle.inventory.specs.Order.{sum_at}
 use Rattle.inventory.proofs.Totals.{half_grams}
