@@ -1,5 +1,6 @@
 // Joining two runs into one.
 #![tactic(auto)]
+
 ghost use Rattle.std.specs.Prelude.{◌≡◌};
 ghost use Rattle.units.specs.Refusals.{verdict_number};
 ghost use Rattle.inventory.specs.Limits.{RunLimits, TotalLimits};
