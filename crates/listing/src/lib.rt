@@ -1,5 +1,6 @@
 // The report of a run, written into a lent buffer.
 #![tactic(auto)]
+
 ghost use Rattle.std.specs.Prelude.{◌≡◌, ◌≤◌, length};
 ghost use Rattle.std.proofs.lemmas.List.Edits.{sets};
 ghost use Rattle.listing.specs.Report.{lines_of, reported_answer, report_of, report_buffer};

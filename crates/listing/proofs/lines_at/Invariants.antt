@@ -1,0 +1,20 @@
+-- What the loops of `listing::lines_at` keep. Assumes nothing.
+use Prim.Native.Nat.{◌+◌, ◌-◌, ◌≤◌}
+use mathlib.Core.Path.{◌≡◌, refl, sym, ap, ◌∙◌}
+use native.Mathlib.Omega.{arith}
+use lib.ListN.{length}
+use lib.Seq.{sets}
+use Rattle.figures.specs.Table.{row_in}
+use Rattle.writing.proofs.Stores.{sets_append}
+use Rattle.report_lines.specs.Line.{line_at}
+use Rattle.listing.specs.Report.{lines_from, lines_of}
+use Rattle.listing.proofs.Lines.{all_lines, unroll, unrolled_length, no_lines}
+use Rattle.listing.proofs.lines_at.Given as goal
+
+abbrev pub invariant-loop-k : goal.invariant-loop-k
+invariant-loop-k l =
+    (l.k ≤ 15) × (length l.b ≡ length l.initial.b) × (l.at + length (lines_from l.f (15 - l.k) l.k) ≤ length l.initial.b)
+    × (sets l.b l.at (lines_from l.f (15 - l.k) l.k) ≡ sets l.initial.b 0 (lines_of l.f))
+
+abbrev pub decreases-loop-k : goal.decreases-loop-k
+decreases-loop-k l = 15 - l.k
