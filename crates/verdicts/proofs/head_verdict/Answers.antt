@@ -14,10 +14,10 @@ pub returns-then-not-temperatures_ok : goal.returns-then-not-temperatures_ok
 unfolding verdict_number refusal_number
 returns-then-not-temperatures_ok c =
     bad_temperature _ (sym c.is_outside.ensures ∙ c.if-is_outside.false)
-    (sym c.temperatures_ok.ensures ∙ not-true _ c.if-not-temperatures_ok.true)
+    (sym c.temperatures_ok.ensures ∙ c.if-not-temperatures_ok.true)
 
 pub returns : goal.returns
 returns c =
     c.period_verdict.ensures
     ∙ by_period _ (sym c.is_outside.ensures ∙ c.if-is_outside.false)
-    (sym c.temperatures_ok.ensures ∙ not-false _ c.if-not-temperatures_ok.false)
+    (sym c.temperatures_ok.ensures ∙ c.if-not-temperatures_ok.false)
