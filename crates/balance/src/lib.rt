@@ -1,5 +1,6 @@
 // The balance of a run's totals against sold fuel.
 #![tactic(auto)]
+
 ghost use Rattle.std.specs.Prelude.{◌≡◌, ◌-◌, ◌≤◌, ◌<◌};
 ghost use Rattle.inventory.specs.Limits.{TotalLimits};
 ghost use Rattle.inventory.specs.Printed.{printed_total};

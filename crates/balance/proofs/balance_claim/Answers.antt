@@ -1,0 +1,7 @@
+-- `balance::balance_claim` does nothing: what it ensures is the theorem. Assumes nothing.
+use Rattle.std.proofs.Common.{rules}
+use Rattle.balance.proofs.Digits.{whole}
+use Rattle.balance.proofs.balance_claim.Goals as goal
+
+pub returns : goal.returns
+returns c = whole
