@@ -1,8 +1,8 @@
 -- A temperature of a head, as the code has it. Assumes nothing.
-use mathlib.Core.Path.{◌≡◌, ap, sym, ◌∙◌}
+use mathlib.Core.Path.{◌≡◌, ap, ◌∙◌}
 use mathlib.Core.Bool.{Bool}
 use Prim.Native.Nat.{ℕ}
-use lib.IntN.{ℤ, pos}
+use lib.IntN.{pos}
 use lib.ListN.{get_or}
 use mir.Syntax.{w64}
 use mir.Val.{to_z, of_z}

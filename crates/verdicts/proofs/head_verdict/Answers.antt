@@ -1,7 +1,5 @@
 -- `verdicts::head_verdict` meets its contract. Assumes nothing.
-use Rattle.std.proofs.Common.{rules}
 use mathlib.Core.Path.{sym, ◌∙◌}
-use borrow.Author.Tests.{not-true, not-false}
 use Rattle.units.specs.Refusals.{verdict_number, refusal_number}
 use Rattle.verdicts.proofs.Verdicts.{bad_trip, bad_temperature, by_period}
 use Rattle.verdicts.proofs.head_verdict.Goals as goal

@@ -1,5 +1,4 @@
 -- `verdicts::shares_wrong` meets its contract. Assumes nothing.
-use Rattle.std.proofs.Common.{rules}
 use Rattle.verdicts.proofs.Verdicts.{urban_over, rural_over, highway_over, sum_right, sum_wrong}
 use Rattle.verdicts.proofs.shares_wrong.Goals as goal
 

@@ -1,6 +1,5 @@
 -- `verdicts::speeds_wrong` meets its contract. Assumes nothing.
-use Rattle.std.proofs.Common.{rules}
-use mathlib.Core.Path.{◌≡◌, refl, ap, sym, ◌∙◌}
+use mathlib.Core.Path.{sym, ◌∙◌}
 use Rattle.verdicts.proofs.Verdicts.{urban_wrong, rural_wrong, highway_last}
 use Rattle.verdicts.proofs.speeds_wrong.Goals as goal
 

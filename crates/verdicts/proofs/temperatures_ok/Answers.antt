@@ -1,13 +1,9 @@
 -- `verdicts::temperatures_ok` meets its contract. Assumes nothing.
 use Rattle.std.proofs.Common.{rules}
-use mathlib.Core.Path.{◌≡◌, refl, ap, sym, ◌∙◌}
-use mathlib.Core.Bool.{true}
-use Prim.Native.Nat.{◌≤◌, ◌-◌}
+use mathlib.Core.Path.{refl, sym, ◌∙◌}
 use native.Mathlib.Omega.{arith}
-use borrow.Author.Tests.{not-true, not-false}
 use Rattle.units.specs.Lists.{all_below}
 use Rattle.units.proofs.Tests.{more, fails, done}
-use Rattle.inventory.specs.Records.{month_ok}
 use Rattle.verdicts.proofs.Temperatures.{month_read}
 use Rattle.verdicts.proofs.temperatures_ok.Goals as goal
 

@@ -1,13 +1,9 @@
 -- What the loops of `verdicts::temperatures_ok` keep. Assumes nothing.
-use mathlib.Core.Path.{◌≡◌, refl, ap, sym, ◌∙◌}
+use mathlib.Core.Path.{◌≡◌}
 use mathlib.Core.Bool.{true}
 use Prim.Native.Nat.{◌≤◌, ◌-◌}
-use native.Mathlib.Omega.{arith}
-use borrow.Author.Tests.{not-true, not-false}
 use Rattle.units.specs.Lists.{all_below}
-use Rattle.units.proofs.Tests.{more, fails, done}
 use Rattle.inventory.specs.Records.{month_ok}
-use Rattle.verdicts.proofs.Temperatures.{month_read}
 use Rattle.verdicts.proofs.temperatures_ok.Given as goal
 
 abbrev pub invariant-loop-k : goal.invariant-loop-k
