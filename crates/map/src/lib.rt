@@ -1,5 +1,6 @@
 // The map's rows of four floats, and one figure.
 #![tactic(auto)]
+
 ghost use Rattle.std.specs.Prelude.{◌≡◌, ◌<◌, ◌^◌};
 ghost use Rattle.map.specs.Floats.{Exactly, AllExact};
 ghost use Rattle.map.specs.Claim.{FigureClaim};
