@@ -1,5 +1,6 @@
 // CO2, SO2 and lead from the fuel of a run.
 #![tactic(auto)]
+
 ghost use Rattle.std.specs.Prelude.{◌≡◌, ◌+◌, ◌*◌, ◌-◌, ◌≤◌, ◌<◌};
 ghost use Rattle.units.specs.Grounds.{first_fit};
 ghost use Rattle.units.specs.Refusals.{verdict_number};
