@@ -1,5 +1,6 @@
 // A head as it crosses from C, Rust and Python: numbers alone, 0 and 0 where there are no dates.
 #![tactic(auto)]
+
 ghost use Rattle.std.specs.Prelude.{◌≡◌};
 ghost use Rattle.capi_heads.specs.Heads.{head_from};
 
