@@ -1,5 +1,6 @@
 // The export for C, Rust and Python that joins two runs. Structs by value, the answer as a number and a run.
 #![tactic(auto)]
+
 ghost use Rattle.std.specs.Prelude.{◌≡◌};
 ghost use Rattle.joins.specs.Joining.{join_number, join_run};
 ghost use Rattle.capi_answers.specs.Answers.{run_answer};
