@@ -1,5 +1,6 @@
 // The exports for C, Rust and Python that give the map's rows and figures. An answer is a number and values.
 #![tactic(auto)]
+
 ghost use Rattle.std.specs.Prelude.{◌≡◌};
 ghost use Rattle.inventory.specs.declared.Kind.{Kind};
 ghost use Rattle.map.specs.Map.{row_of, figure_answer, figure_of};
