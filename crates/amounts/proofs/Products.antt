@@ -1,9 +1,8 @@
 -- Products that omega does not see. Assumes nothing.
-use mathlib.Core.Path.{◌≡◌, refl, ap, sym, ◌∙◌}
+use mathlib.Core.Path.{◌≡◌, ap, sym, ◌∙◌}
 use Prim.Native.Nat.{ℕ, ◌+◌, ◌*◌, ◌-◌, ◌/◌, ◌%◌, ◌≤◌, ◌<◌}
-use native.Mathlib.Nat.{add-mul, mul_assoc, mul_right_comm, div-add-mod', mul-le-mul}
+use native.Mathlib.Nat.{add-mul, mul_right_comm, div-add-mod', mul-le-mul}
 use native.Mathlib.Omega.{arith}
-use Rattle.units.specs.declared.Grams.{Grams}
 use Rattle.inventory.specs.declared.Amount.{Amount}
 use Rattle.inventory.specs.Adding.{billionths}
 

@@ -1,5 +1,4 @@
 -- `amounts::carried` meets its contract. Assumes nothing.
-use Rattle.std.proofs.Common.{rules}
 use native.Mathlib.Omega.{arith}
 use Rattle.amounts.proofs.Products.{plain, carry}
 use Rattle.amounts.proofs.carried.Goals as goal
