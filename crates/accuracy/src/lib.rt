@@ -1,5 +1,6 @@
 // SPECIFICATION, "Accuracy" (demand 3) and "Figures", as claims that the check names.
 #![tactic(auto)]
+
 ghost use Rattle.accuracy.specs.Claim.{AccuracyClaim};
 ghost use Rattle.accuracy.specs.ColdValues.{ColdValuesClaim};
 ghost use Rattle.accuracy.specs.History.{HistoryClaim};
