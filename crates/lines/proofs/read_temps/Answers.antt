@@ -3,7 +3,8 @@ use Rattle.std.proofs.Common.{rules}
 use Prim.Native.Nat.{◌+◌, ◌-◌, ◌*◌, ◌≤◌, ◌<◌}
 use mathlib.Core.Path.{◌≡◌, refl, sym, ap, ◌∙◌}
 use native.Mathlib.Omega.{arith}
-use lib.ListN.{length, length-set}
+use lib.IntN.{pos}
+use lib.ListN.{length, length-set, replicate}
 use mir.Syntax.{w64}
 use mir.Val.{to_z, of_z}
 use Rattle.lines.specs.Reading.{temps_case}
@@ -11,7 +12,7 @@ use Rattle.lines.proofs.Heads.{place, place_zero, fives, missing, filled, full}
 use Rattle.lines.proofs.read_temps.Goals as goal
 
 pub loop-j-init : goal.loop-j-init
-loop-j-init c = (omega arith, refl, refl, place_zero _ _)
+loop-j-init c = (omega arith, refl, refl, place_zero (replicate 12 (pos 0)) _)
 
 pub signed_at-v-requires : goal.signed_at-v-requires
 signed_at-v-requires c = omega arith
