@@ -1,5 +1,6 @@
 // Sixteen areas under one head. Their meaning stands in specs/, what is used of it in proofs/; the code is in the crates above.
 #![tactic(auto)]
+
 use inventory::Run;
 use units::Verdict;
 
