@@ -1,5 +1,6 @@
 // The exports for C, Rust and Python that ask a run for grams. An answer is a number and values.
 #![tactic(auto)]
+
 ghost use Rattle.std.specs.Prelude.{◌≡◌};
 ghost use Rattle.inventory.specs.declared.Kind.{Kind};
 ghost use Rattle.inventory.specs.Printed.{printed_answer, total_of, kind_of};
