@@ -1,5 +1,6 @@
 // Whether the sums and totals of a run among the numbers of areas are in order, tested where they lie: no run is copied.
 #![tactic(auto)]
+
 ghost use Rattle.std.specs.Prelude.{◌≡◌, true, ◌+◌, ◌≤◌, ◌<◌, length};
 ghost use Rattle.units.specs.Lists.{all_below};
 ghost use Rattle.inventory.specs.Order.{sum_ok, total_ok, sums_ok};
