@@ -1,5 +1,6 @@
 // The L and the X of the areas, which all have those of the first.
 #![tactic(auto)]
+
 ghost use Rattle.std.specs.Prelude.{◌≡◌, ◌+◌, ◌≤◌, length};
 ghost use Rattle.units.specs.Lists.{all_below};
 ghost use Rattle.classes.specs.Classes.{x_count};

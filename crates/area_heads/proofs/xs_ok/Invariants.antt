@@ -1,0 +1,15 @@
+-- What the loops of `area_heads::xs_ok` keep. Assumes nothing.
+use mathlib.Core.Path.{◌≡◌}
+use mathlib.Core.Bool.{true}
+use Prim.Native.Nat.{◌-◌, ◌≤◌}
+use Rattle.units.specs.Lists.{all_below}
+use Rattle.classes.specs.Classes.{x_count}
+use Rattle.inventory.specs.Order.{x_ok}
+use Rattle.areas.specs.Numbers.{run_at}
+use Rattle.area_heads.proofs.xs_ok.Given as goal
+
+abbrev pub invariant-loop-k : goal.invariant-loop-k
+invariant-loop-k l = (l.k ≤ x_count) × (all_below (x_ok (run_at l.numbers 0)) l.k ≡ true)
+
+abbrev pub decreases-loop-k : goal.decreases-loop-k
+decreases-loop-k l = x_count - l.k
