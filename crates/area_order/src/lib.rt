@@ -1,5 +1,6 @@
 // Whether areas that a caller lends are in order, tested where they lie.
 #![tactic(auto)]
+
 ghost use Rattle.std.specs.Prelude.{◌≡◌, true, false, ◌&&◌, ◌+◌, ◌-◌, ◌≤◌, length};
 ghost use Rattle.units.specs.Lists.{all_below};
 ghost use Rattle.units.specs.Grounds.{outside};
