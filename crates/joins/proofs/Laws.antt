@@ -79,15 +79,15 @@ module _ (a b : Run) where
   unfolding joined with_totals added_up km_joined
   km_in_lem fuel h = ap (λ v. v.0) (tab_at (record { 0 = 0 }) (km_joined a b) 3 fuel h)
 
-  rest_in : (j : ℕ) → j < 60 → rest_in (joined a b) j ≡ (slot_joined a b j).rest
+  rest_in_lem : (j : ℕ) → j < 60 → rest_in (joined a b) j ≡ (slot_joined a b j).rest
   unfolding joined with_totals added_up
-  rest_in j h = tab_at 0 (rest_joined a b) 60 j h
+  rest_in_lem j h = tab_at 0 (rest_joined a b) 60 j h
 
   pub sum_in : (j : ℕ) → j < 60 → sum_at (joined a b) j ≡ sum_at a j + sum_at b j
   unfolding sum_at joined with_totals added_up slot_joined
   sum_in j h =
       let g : grams_in (joined a b) j ≡ (slot_joined a b j).grams.0 = ap (λ g. g.0) (tab_at (record { 0 = 0 }) (grams_joined a b) 60 j h) in
-      rw (g, rest_in j h) (value _)
+      rw (g, rest_in_lem j h) (value _)
 
   -- and so are the totals
   pub exact_in_lem : (fuel quantity : ℕ) → fuel < 3 → quantity < 5 → exact_total (joined a b) fuel quantity ≡ exact_total a fuel quantity + exact_total b fuel quantity
@@ -99,7 +99,7 @@ module _ (a b : Run) where
   unfolding joined with_totals added_up slot_joined
   order_joined o p few =
       order_by (joined a b) (trip_of a o).0 (trip_of a o).1 few (x_of_lem a o)
-      (λ j h. rw (rest_in j h) (rest_small _))
+      (λ j h. rw (rest_in_lem j h) (rest_small _))
       (λ j h. omega (arith, sum_in j h, sum_most a o j h, sum_most b p j h))
       (λ f h. omega (arith, km_in_lem f h, km_of_lem a o f h, km_of_lem b p f h)) (total_kept _)
 
