@@ -1,5 +1,6 @@
 // A run among the numbers of areas: read from them, and written to them.
 #![tactic(auto)]
+
 ghost use Rattle.std.specs.Prelude.{◌≡◌, ◌+◌, ◌≤◌, length};
 ghost use Rattle.units.specs.Lists.{tab};
 ghost use Rattle.areas.specs.Numbers.{number_at, km_at, grams_at, run_at, run_number};
