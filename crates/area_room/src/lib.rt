@@ -1,5 +1,6 @@
 // The room of an area: whether it takes a record, and the common use after one.
 #![tactic(auto)]
+
 ghost use Rattle.std.specs.Prelude.{◌≡◌, ◌≤◌};
 ghost use Rattle.units.specs.Grounds.{first_fit};
 ghost use Rattle.units.specs.Refusals.{verdict_number};
