@@ -1,5 +1,6 @@
 // SPECIFICATION, "Joining", as a claim that the check names.
 #![tactic(auto)]
+
 ghost use Rattle.inventory.specs.Limits.{Shaped};
 ghost use Rattle.join_claims.specs.Claim.{JoinClaim};
 

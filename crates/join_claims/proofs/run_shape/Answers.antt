@@ -1,10 +1,9 @@
 -- `join_claims::run_shape` does nothing: what it ensures is told by the type of its argument. Assumes nothing.
+use Rattle.std.proofs.Common.{rules}
 use Rattle.units.proofs.Between.{length_of}
-use borrow.Author.Rules.{rules}
-use Rattle.join_claims.proofs.run_shape.Statement.{statement}
-use Rattle.join_claims.proofs.run_shape.Tie as tie
+use Rattle.join_claims.proofs.run_shape.Goals as goal
 
-returns : tie.Need-returns
+pub returns : goal.returns
 returns c =
     record {
       xs = search rules;
@@ -14,6 +13,3 @@ returns c =
       total_grams = search (rules, length_of);
       total_rests = search rules;
     }
-
-pub run-shape-spec : {M : Type 1} → statement M
-run-shape-spec = tie.close (tie.spec returns)
