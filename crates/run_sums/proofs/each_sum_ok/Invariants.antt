@@ -1,12 +1,9 @@
 -- What the loops of `run_sums::each_sum_ok` keep. Assumes nothing.
-use mathlib.Core.Path.{◌≡◌, refl, sym, ◌∙◌}
+use mathlib.Core.Path.{◌≡◌}
 use mathlib.Core.Bool.{true}
 use Prim.Native.Nat.{◌≤◌, ◌-◌}
-use native.Mathlib.Omega.{arith}
-use borrow.Author.Tests.{not-true, not-false}
 use Rattle.units.specs.Lists.{all_below}
 use Rattle.inventory.specs.Order.{sum_ok}
-use Rattle.units.proofs.Tests.{more, fails, done}
 use Rattle.run_sums.proofs.each_sum_ok.Given as goal
 
 abbrev pub invariant-loop-k : goal.invariant-loop-k

@@ -1,8 +1,7 @@
 -- What the loops of `run_sums::kinds_ok` keep. Assumes nothing.
 use Prim.Native.Nat.{◌≤◌, ◌-◌}
-use native.Mathlib.Omega.{arith}
 use Rattle.inventory.specs.Order.{grams_in}
-use Rattle.run_sums.proofs.Together.{Within, within_none, within_more, mark_in, together}
+use Rattle.run_sums.proofs.Together.{Within, mark_in}
 use Rattle.run_sums.proofs.kinds_ok.Given as goal
 
 abbrev pub invariant-loop-j : goal.invariant-loop-j

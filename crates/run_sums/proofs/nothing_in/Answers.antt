@@ -1,17 +1,13 @@
 -- `run_sums::nothing_in` meets its contract. Assumes nothing.
 use Rattle.std.proofs.Common.{rules}
 use mathlib.Core.Path.{sym}
-use Prim.Native.Nat.{◌≤◌, ◌-◌}
+use Prim.Native.Nat.{◌-◌}
 use native.Mathlib.Omega.{arith}
 use borrow.Author.Tests.{eqb-true}
 use Rattle.units.proofs.Tests.{never}
 use Rattle.inventory.specs.Order.{grams_in, rest_in, total_grams_in, total_rest_in}
-use Rattle.run_sums.proofs.Together.{Within, within_none, within_more, within_or, all_none}
+use Rattle.run_sums.proofs.Together.{within_none, within_more, within_or, all_none}
 use Rattle.run_sums.proofs.nothing_in.Goals as goal
-
-element_copy_out_rest_bits_2 :
-    tie.Need-element-copy-out-rest-bits-2 invariant-loop decreases-loop invariant-loop2 decreases-loop2
-element_copy_out_rest_bits_2 c = search rules
 
 pub loop-i-init : goal.loop-i-init
 loop-i-init c = let run = c.args.run in (search rules, within_none (grams_in run) _, within_none (rest_in run) _)

@@ -1,11 +1,7 @@
 -- What the loops of `run_sums::nothing_in` keep. Assumes nothing.
-use mathlib.Core.Path.{sym}
 use Prim.Native.Nat.{◌≤◌, ◌-◌}
-use native.Mathlib.Omega.{arith}
-use borrow.Author.Tests.{eqb-true}
-use Rattle.units.proofs.Tests.{never}
 use Rattle.inventory.specs.Order.{grams_in, rest_in, total_grams_in, total_rest_in}
-use Rattle.run_sums.proofs.Together.{Within, within_none, within_more, within_or, all_none}
+use Rattle.run_sums.proofs.Together.{Within}
 use Rattle.run_sums.proofs.nothing_in.Given as goal
 
 abbrev pub invariant-loop-i : goal.invariant-loop-i

@@ -1,5 +1,4 @@
 -- `run_sums::sum_ok` meets its contract. Assumes nothing.
-use Rattle.std.proofs.Common.{rules}
 use native.Mathlib.Omega.{arith}
 use mathlib.Core.Path.{sym}
 use Rattle.inventory.proofs.Order.{sum_good, rest_big, sum_over}
