@@ -1,5 +1,4 @@
 -- `report_lines::line_length` meets its contract. Assumes nothing.
-use Rattle.std.proofs.Common.{rules}
 use mathlib.Core.Path.{sym, ap}
 use lib.ListN.{length}
 use Rattle.report_lines.proofs.Line.{left_out, length_printed}

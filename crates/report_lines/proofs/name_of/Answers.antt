@@ -1,5 +1,4 @@
 -- `report_lines::name_of` meets its contract. Assumes nothing.
-use Rattle.std.proofs.Common.{rules}
 use mathlib.Core.Path.{◌≡◌}
 use native.Mathlib.Omega.{arith}
 use Rattle.report_lines.proofs.name_of.Goals as goal
