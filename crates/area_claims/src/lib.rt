@@ -1,5 +1,6 @@
 // SPECIFICATION, "Areas", as a claim that the check names.
 #![tactic(auto)]
+
 ghost use Rattle.area_claims.specs.Claim.{AreasClaim};
 ghost use Rattle.area_claims.specs.Worked.{AreasWorkedClaim};
 
