@@ -24,7 +24,7 @@ pub loop-q-init : goal.loop-q-init
 loop-q-init c = (omega arith, fuel_most c.args.rec _ c.fuel_of-fuel.ensures, between_none _ _ _ _ _ _ (search (rules, length_of)) (omega arith), between_none _ _ _ _ _ _ c.requires.rests_len (omega arith))
 
 pub cold_rate-c-requires : goal.cold_rate-c-requires
-cold_rate-c-requires c = let l = c.loop-q in let h = c.loop-q-test.true in (h, factor_most c.args.rec _ c.factors_of-f.ensures c.requires.record_limits _ (omega (arith, l.invariant.0, h)), c.requires.run_limits.x-most)
+cold_rate-c-requires c = let l = c.loop-q in let h = c.loop-q-test.true in (h, factor_most c.args.rec _ c.factors_of-f.ensures c.requires.record_limits _ (omega (arith, l.invariant.0, h)), c.requires.run_limits.x_most_lem)
 
 pub offset_bounds-r-b : goal.offset_bounds-r-b
 offset_bounds-r-b c = omega (arith, c.loop-q.invariant.0, c.loop-q.invariant.1, c.loop-q-test.true)
@@ -214,12 +214,13 @@ loop-q-preserved c =
     let v3 : c.with_cold-s3.result ≡ slot_after run rec (b + 3) = cold_made rec _ c.factors_of-f.ensures q hq run fuel ef (b + 3) _ _ (omega arith) c.cold_rate-c.ensures (rw (above_grams i.2 (b + 3) (omega arith), i.3.above (b + 3) (omega arith)) at c.with_cold-s3.ensures) in (
       omega arith,
       hf,
-      between_more (b + 3) _ _ (between_more (b + 2) (b + 3) _ (between_more (b + 1) (b + 2) _ (between_more b (b + 1) _ i.2 (omega arith) (omega arith) (omega arith) (omega arith) (ap (λ s. c.grams) v0)) (omega arith) (omega arith) (omega arith) (omega arith) (ap (λ s. c.grams) v1)) (omega arith) (omega arith) (omega arith) (omega arith) (ap (λ s. c.grams) v2)) (omega arith) (omega arith) (omega arith) (omega arith) (ap (λ s. c.grams) v3),
-      between_more (b + 3) _ _ (between_more (b + 2) (b + 3) _ (between_more (b + 1) (b + 2) _ (between_more b (b + 1) _ i.3 (omega arith) (omega arith) (omega arith) (omega arith) (ap (λ s. c.rest) v0)) (omega arith) (omega arith) (omega arith) (omega arith) (ap (λ s. c.rest) v1)) (omega arith) (omega arith) (omega arith) (omega arith) (ap (λ s. c.rest) v2)) (omega arith) (omega arith) (omega arith) (omega arith) (ap (λ s. c.rest) v3),
+      between_more (b + 3) _ _ (between_more (b + 2) (b + 3) _ (between_more (b + 1) (b + 2) _ (between_more b (b + 1) _ i.2 (omega arith) (omega arith) (omega arith) (omega arith) (ap (λ s. s.grams) v0)) (omega arith) (omega arith) (omega arith) (omega arith) (ap (λ s. s.grams) v1)) (omega arith) (omega arith) (omega arith) (omega arith) (ap (λ s. s.grams) v2)) (omega arith) (omega arith) (omega arith) (omega arith) (ap (λ s. s.grams) v3),
+      between_more (b + 3) _ _ (between_more (b + 2) (b + 3) _ (between_more (b + 1) (b + 2) _ (between_more b (b + 1) _ i.3 (omega arith) (omega arith) (omega arith) (omega arith) (ap (λ s. s.rest) v0)) (omega arith) (omega arith) (omega arith) (omega arith) (ap (λ s. s.rest) v1)) (omega arith) (omega arith) (omega arith) (omega arith) (ap (λ s. s.rest) v2)) (omega arith) (omega arith) (omega arith) (omega arith) (ap (λ s. s.rest) v3),
     )
 
 pub returns : goal.returns
 returns c =
     let i = c.loop-q.invariant in
     let e : c.loop-q.q ≡ 5 = omega (arith, i.0, c.loop-q-test.false) in
-    made (of_sums c.args.x.now c.args.grams.sums c.args.rests.now) c.args.rec _ c.fuel_of-fuel.ensures i.1 c.requires.run_limits _ (omega arith) _ _ i.2 i.3
+    let m = made (of_sums c.args.x.now c.args.grams.sums c.args.rests.now) c.args.rec _ c.fuel_of-fuel.ensures i.1 c.requires.run_limits _ (omega arith) _ _ i.2 i.3 in
+    record { grams = m.0; rests = m.1 }
