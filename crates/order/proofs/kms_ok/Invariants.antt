@@ -1,12 +1,9 @@
 -- What the loops of `order::kms_ok` keep. Assumes nothing.
-use mathlib.Core.Path.{◌≡◌, refl, sym}
+use mathlib.Core.Path.{◌≡◌}
 use mathlib.Core.Bool.{true}
 use Prim.Native.Nat.{◌≤◌, ◌-◌}
-use native.Mathlib.Omega.{arith}
-use borrow.Author.Tests.{le-leb, lt-leb}
 use Rattle.units.specs.Lists.{all_below}
 use Rattle.inventory.specs.Order.{km_ok}
-use Rattle.units.proofs.Tests.{more, fails, done}
 use Rattle.order.proofs.kms_ok.Given as goal
 
 abbrev pub invariant-loop-k : goal.invariant-loop-k

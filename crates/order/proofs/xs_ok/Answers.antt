@@ -1,13 +1,10 @@
 -- `order::xs_ok` meets its contract. Assumes nothing.
 use Rattle.std.proofs.Common.{rules}
-use mathlib.Core.Path.{◌≡◌, refl, sym}
-use mathlib.Core.Bool.{true}
-use Prim.Native.Nat.{◌≤◌, ◌-◌}
+use mathlib.Core.Path.{refl, sym}
 use native.Mathlib.Omega.{arith}
 use borrow.Author.Tests.{le-leb, lt-leb}
 use Rattle.units.specs.Lists.{all_below}
 use Rattle.classes.specs.Classes.{x_count}
-use Rattle.inventory.specs.Order.{x_ok}
 use Rattle.units.proofs.Tests.{more, fails, done}
 use Rattle.order.proofs.xs_ok.Goals as goal
 

@@ -1,13 +1,10 @@
 -- What the loops of `order::xs_ok` keep. Assumes nothing.
-use mathlib.Core.Path.{◌≡◌, refl, sym}
+use mathlib.Core.Path.{◌≡◌}
 use mathlib.Core.Bool.{true}
 use Prim.Native.Nat.{◌≤◌, ◌-◌}
-use native.Mathlib.Omega.{arith}
-use borrow.Author.Tests.{le-leb, lt-leb}
 use Rattle.units.specs.Lists.{all_below}
 use Rattle.classes.specs.Classes.{x_count}
 use Rattle.inventory.specs.Order.{x_ok}
-use Rattle.units.proofs.Tests.{more, fails, done}
 use Rattle.order.proofs.xs_ok.Given as goal
 
 abbrev pub invariant-loop-k : goal.invariant-loop-k
