@@ -1,5 +1,6 @@
 // Opening a run and adding records to it.
 #![tactic(auto)]
+
 ghost use Rattle.std.specs.Prelude.{◌≡◌, ◌<◌, true};
 ghost use Rattle.units.specs.Grounds.{first_fit};
 ghost use Rattle.units.specs.Refusals.{verdict_number};
