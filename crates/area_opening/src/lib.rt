@@ -1,5 +1,6 @@
 // Opening areas, which are lent as 2,737 numbers.
 #![tactic(auto)]
+
 ghost use Rattle.std.specs.Prelude.{◌≡◌};
 ghost use Rattle.units.specs.Refusals.{verdict_number};
 ghost use Rattle.areas.specs.Calls.{open_areas_number, open_areas_numbers};
