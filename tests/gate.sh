@@ -53,6 +53,8 @@ try "rt ci says that one failed, and ends with 0" '11 passed, 1 failed\n' 0 0 0 
 try "rt ci fails behind a good line" "$good" 2 0 0 no
 try "rt ci says nothing" '' 0 0 0 no
 try "rt ci ends with another line" "${good}rt: and more\n" 0 0 0 no
+try "rt ci counts a bad edit" 'rt: ok; handles allowed: none; must-fail edits: 11 refused, 1 bad; every proof and must-fail edit was done in this run\n12 passed, 0 failed\n' 0 0 0 no
+try "rt ci counts no bad edit" 'rt: ok; handles allowed: none; must-fail edits: 12 refused; every proof and must-fail edit was done in this run\n12 passed, 0 failed\n' 0 0 0 yes
 try "the tests fail" "$good" 0 0 1 no
 try "a tool is missing" "$good" 0 1 0 no
 
