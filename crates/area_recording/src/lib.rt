@@ -1,5 +1,6 @@
 // Adding to an area, and the run of one. Areas are lent as 2,737 numbers and changed in place.
 #![tactic(auto)]
+
 ghost use Rattle.std.specs.Prelude.{◌≡◌};
 ghost use Rattle.units.specs.Refusals.{verdict_number};
 ghost use Rattle.areas.specs.Calls.{add_area_number, add_area_numbers, area_run_number, area_run};
