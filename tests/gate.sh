@@ -60,6 +60,8 @@ try "a tool is missing" "$good" 0 1 0 no
 
 # The real tests/run.sh; its part `papers` is the one that does as it is told.
 cp tests/run.sh "$room/repo/tests/run.sh"
+mkdir "$room/repo/tools"
+printf '#!/bin/sh\n' > "$room/repo/tools/program.sh"
 cat > "$room/repo/tests/archive.sh" <<'EOF'
 [ "$ARCHIVE_STATUS" -eq 0 ] || exit "$ARCHIVE_STATUS"
 EOF
@@ -70,7 +72,7 @@ tests/papers.py) eval "$PAPERS_DO" ;;
 esac
 EOF
 printf '#!/bin/sh\n' > "$room/parts/rt"
-chmod +x "$room/parts/python3" "$room/parts/rt"
+chmod +x "$room/parts/python3" "$room/parts/rt" "$room/repo/tools/program.sh"
 # LABEL, what the part does, the status of the build, whether all passes, and what must be said
 try_parts() {
     status=0

@@ -52,7 +52,7 @@ began=$SECONDS
 failed=
 build() {
     # what is not proved yet is proved first; the gate has it all
-    rt check report && . tests/archive.sh
+    tools/program.sh report && . tests/archive.sh
 }
 if (build) > "$logs/build.log" 2>&1; then
     echo "build: ok ($((SECONDS - began)) s)"

@@ -2,9 +2,10 @@
 
     python3 tests/wrong_programs.py
 
-A text buffer of 388 bytes, an input of 65,536 or of 4,096 bytes: `rt check report` must refuse to compile it, since the call
+A text buffer of 388 bytes, an input of 65,536 or of 4,096 bytes: `rt check` must refuse to compile it, since the call
 of the library takes these sizes alone. A program that does not print a text of 17 bytes: it is proved and built, and
-tests/report.py must catch it. Needs the libraries of target/rlib (`rt check report`). Exits 1 where one is not caught.
+tests/report.py must catch it. What `rt check` kept of the libraries (tools/program.sh report) makes this quick. Exits 1
+where one is not caught.
 """
 import os
 import re
@@ -22,26 +23,18 @@ failed = 0
 
 
 def scratch(name):
-    """A repository whose crates are links to ours, but for a copy of report; nothing else has to be proved again."""
+    """A copy of the repository's crates; what a check kept of them is taken from ours, so only report is proved again."""
     folder = os.path.join(WRONG, name)
     shutil.rmtree(folder, ignore_errors=True)
-    os.makedirs(os.path.join(folder, "crates"))
-    os.makedirs(os.path.join(folder, "target"))
+    os.makedirs(folder)
     shutil.copy(os.path.join(ROOT, "crates.txt"), folder)
-    for crate in os.listdir(os.path.join(ROOT, "crates")):
-        if crate != "report":
-            os.symlink(os.path.join(ROOT, "crates", crate), os.path.join(folder, "crates", crate))
-    shutil.copytree(os.path.join(ROOT, "crates", "report"), os.path.join(folder, "crates", "report"))
-    os.symlink(os.path.join(ROOT, "target", "rlib"), os.path.join(folder, "target", "rlib"))
-    shutil.copytree(os.path.join(ROOT, "target", "stamp"), os.path.join(folder, "target", "stamp"))
-    stamp = os.path.join(folder, "target", "stamp", "report")
-    if os.path.exists(stamp):
-        os.remove(stamp)
+    program = os.path.join(ROOT, "crates", "report", "out")
+    shutil.copytree(os.path.join(ROOT, "crates"), os.path.join(folder, "crates"), ignore=lambda at, names: ["out"] if os.path.join(at, "out") == program else [])
     return folder
 
 
 def changed(name, pattern, replacement):
-    """`rt check report` in a scratch copy where every place of src/ that fits is replaced: its folder, status and output."""
+    """`rt check` in a scratch copy where every place of report's src/ that fits is replaced: its folder, status and output."""
     folder, places = scratch(name), 0
     for base, _, files in os.walk(os.path.join(folder, "crates", "report", "src")):
         for path in (os.path.join(base, file) for file in files):
@@ -52,9 +45,7 @@ def changed(name, pattern, replacement):
             places += n
     if places == 0:
         sys.exit("%s: crates/report/src has no place that fits %r" % (name, pattern))
-    ended = subprocess.run(["rt", "check", "report"], cwd=folder, stdout=subprocess.PIPE, stderr=subprocess.STDOUT, text=True)
-    again = re.findall(r"^rt: (\w+) proved \(\d+ s\)", ended.stdout, re.M)
-    assert set(again) <= {"report"}, "proved again in the scratch copy: %s" % again
+    ended = subprocess.run(["rt", "check"], cwd=os.path.join(folder, "crates", "report"), stdout=subprocess.PIPE, stderr=subprocess.STDOUT, text=True)
     return folder, ended.returncode, ended.stdout
 
 
@@ -71,14 +62,17 @@ def does_not_compile(name, pattern, replacement):
     """The compiler itself refuses it: no proof is asked for, and no program is there."""
     folder, status, output = changed(name, pattern, replacement)
     error = re.search(r"\bsrc/\w+\.rt:\d+:\d+: error\[mismatched-types\]: .*", output)
-    program = os.path.exists(os.path.join(folder, "target", "bin", "report"))
-    caught = status != 0 and error is not None and "logic=" not in output and not program
+    proved = re.search(r"^fn report::.*: proved", output, re.M)
+    caught = status != 0 and error is not None and not proved
     say(name, caught, "it does not compile: %s" % (error and error.group()[:200]), output)
 
 
 def is_seen_by_the_test(name, pattern, replacement, part):
     folder, status, output = changed(name, pattern, replacement)
-    program = os.path.join(folder, "target", "bin", "report")
+    crate = os.path.join(folder, "crates", "report")
+    program = os.path.join(crate, "out", "report")
+    if status == 0:
+        subprocess.run(["rt", "run"], cwd=crate, stdin=subprocess.DEVNULL, stdout=subprocess.DEVNULL, stderr=subprocess.DEVNULL)
     if status != 0 or not os.path.exists(program):
         sys.exit("%s: the wrong program was to be built, and was not\n%s" % (name, output))
     ended = subprocess.run([sys.executable, os.path.join(ROOT, "tests", "report.py"), program, part], stdout=subprocess.PIPE, text=True)

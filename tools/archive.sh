@@ -1,7 +1,7 @@
 #!/usr/bin/env bash
 # Proves the C interface and writes target/libhaldurap.a, the archive for C, Rust and Python on x86-64 Linux.
-# `rt staticlib` writes the exports of one crate; there is a crate for each group of calls, so that a must-fail edit of one
-# does not pay for all. Here they become one archive.
+# `rt lib` writes the exports of one crate, a static library; there is a crate for each group of calls, so that a must-fail
+# edit of one does not pay for all. Here they become one archive.
 set -eu
 cd "$(dirname "$0")/.."
 command -v rt > /dev/null || { echo "tools/archive.sh: rt is not installed"; exit 1; }
@@ -13,8 +13,8 @@ rm -rf "$objects"
 mkdir -p "$objects"
 for crate in capi_runs capi_joins capi_lists capi_areas capi_questions capi_map capi_texts; do
     echo "proving and building $crate"
-    rt staticlib "$crate" > "$objects/$crate.log" 2>&1 || { cat "$objects/$crate.log"; echo "tools/archive.sh: $crate is not proved, no archive is written"; exit 1; }
-    (cd "$objects" && ar x "../staticlib/lib$crate.a")
+    (cd "crates/$crate" && rt lib) > "$objects/$crate.log" 2>&1 || { cat "$objects/$crate.log"; echo "tools/archive.sh: $crate is not proved, no archive is written"; exit 1; }
+    (cd "$objects" && ar x "../../crates/$crate/out/lib$crate.a")
 done
 ar crs target/libhaldurap.a "$objects"/*.o
 echo "target/libhaldurap.a"

@@ -46,7 +46,7 @@ class BookError(Exception):
 def book():
     """The entries, by class, quantity and speed."""
     count = len(CLASSES) * len(QUANTITIES) * len(SPEEDS)
-    again = "; bring back the file of the repository, or write it anew: rt check factorbook; target/bin/factorbook > crates/factorbook/stdout"
+    again = "; bring back the file of the repository, or write it anew: tools/program.sh factorbook; target/bin/factorbook > crates/factorbook/stdout"
     try:
         with open(BOOK, "rb") as file:
             *lines, rest = file.read().split(b"\n")
