@@ -1,5 +1,6 @@
 // A list of records added to a freshly opened run, with the claim of accuracy about it.
 #![tactic(auto)]
+
 ghost use Rattle.std.specs.Prelude.{◌≡◌, true};
 ghost use Rattle.units.specs.Refusals.{refusal_number, verdict_number};
 ghost use Rattle.inventory.specs.Order.{in_order};
