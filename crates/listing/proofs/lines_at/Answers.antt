@@ -1,22 +1,19 @@
 -- `listing::lines_at` meets its contract. Assumes nothing.
-use Rattle.std.proofs.Common.{rules}
-use Prim.Native.Nat.{◌+◌, ◌-◌, ◌≤◌}
-use mathlib.Core.Path.{◌≡◌, refl, sym, ap, ◌∙◌}
+use mathlib.Core.Path.{refl, sym, ap, ◌∙◌}
 use native.Mathlib.Omega.{arith}
 use lib.ListN.{length}
 use lib.Seq.{sets}
 use Rattle.figures.specs.Table.{row_in}
 use Rattle.writing.proofs.Stores.{sets_append}
 use Rattle.report_lines.specs.Line.{line_at}
-use Rattle.listing.specs.Report.{lines_from, lines_of}
 use Rattle.listing.proofs.Lines.{all_lines, unroll, unrolled_length, no_lines}
 use Rattle.listing.proofs.lines_at.Goals as goal
 
 pub loop-k-init : goal.loop-k-init
 loop-k-init c =
     let a = c.args in
-    let e = ap length (all_lines a.t2) in
-    (omega arith, refl, omega arith, ap (sets a.b.now 0) (all_lines a.t2))
+    let e = ap length (all_lines a.f) in
+    (omega arith, refl, omega arith, ap (sets a.b.now 0) (all_lines a.f))
 
 pub offset_bounds-f-k : goal.offset_bounds-f-k
 offset_bounds-f-k c = omega arith

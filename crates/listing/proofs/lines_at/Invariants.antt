@@ -1,14 +1,9 @@
 -- What the loops of `listing::lines_at` keep. Assumes nothing.
 use Prim.Native.Nat.{◌+◌, ◌-◌, ◌≤◌}
-use mathlib.Core.Path.{◌≡◌, refl, sym, ap, ◌∙◌}
-use native.Mathlib.Omega.{arith}
+use mathlib.Core.Path.{◌≡◌}
 use lib.ListN.{length}
 use lib.Seq.{sets}
-use Rattle.figures.specs.Table.{row_in}
-use Rattle.writing.proofs.Stores.{sets_append}
-use Rattle.report_lines.specs.Line.{line_at}
 use Rattle.listing.specs.Report.{lines_from, lines_of}
-use Rattle.listing.proofs.Lines.{all_lines, unroll, unrolled_length, no_lines}
 use Rattle.listing.proofs.lines_at.Given as goal
 
 abbrev pub invariant-loop-k : goal.invariant-loop-k

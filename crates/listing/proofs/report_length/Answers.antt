@@ -1,11 +1,8 @@
 -- `listing::report_length` meets its contract. Assumes nothing.
-use Rattle.std.proofs.Common.{rules}
-use Prim.Native.Nat.{◌+◌, ◌*◌, ◌-◌, ◌≤◌}
-use mathlib.Core.Path.{◌≡◌, ap}
+use mathlib.Core.Path.{ap}
 use native.Mathlib.Omega.{arith}
 use lib.ListN.{length}
 use Rattle.figures.specs.Table.{row_in}
-use Rattle.listing.specs.Report.{lines_from, lines_of}
 use Rattle.report_lines.proofs.Line.{line_most}
 use Rattle.listing.proofs.Lines.{all_lines, unrolled_length, no_lines}
 use Rattle.listing.proofs.report_length.Goals as goal

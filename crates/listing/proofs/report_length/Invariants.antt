@@ -1,12 +1,8 @@
 -- What the loops of `listing::report_length` keep. Assumes nothing.
 use Prim.Native.Nat.{◌+◌, ◌*◌, ◌-◌, ◌≤◌}
-use mathlib.Core.Path.{◌≡◌, ap}
-use native.Mathlib.Omega.{arith}
+use mathlib.Core.Path.{◌≡◌}
 use lib.ListN.{length}
-use Rattle.figures.specs.Table.{row_in}
 use Rattle.listing.specs.Report.{lines_from, lines_of}
-use Rattle.report_lines.proofs.Line.{line_most}
-use Rattle.listing.proofs.Lines.{all_lines, unrolled_length, no_lines}
 use Rattle.listing.proofs.report_length.Given as goal
 
 abbrev pub invariant-loop-k : goal.invariant-loop-k

@@ -1,5 +1,4 @@
 -- `listing::width_claim` does nothing: what it ensures is the claim. Assumes nothing.
-use Rattle.std.proofs.Common.{rules}
 use Rattle.listing.proofs.Widths.{widths}
 use Rattle.listing.proofs.width_claim.Goals as goal
 
