@@ -1,5 +1,6 @@
 // A sheet: a head line and record lines, read into a run.
 #![tactic(auto)]
+
 ghost use Rattle.std.specs.Prelude.{◌≡◌, true, ◌≤◌, length, drop};
 ghost use Rattle.units.specs.Refusals.{verdict_number, refusal_number};
 ghost use Rattle.inventory.specs.Order.{in_order};
