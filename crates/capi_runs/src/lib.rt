@@ -1,5 +1,6 @@
 // The exports for C, Rust and Python over runs: opening, adding, order. Structs by value, answers as a number and values.
 #![tactic(auto)]
+
 ghost use Rattle.std.specs.Prelude.{◌≡◌};
 ghost use Rattle.inventory.specs.Order.{in_order};
 ghost use Rattle.inventory.specs.Opening.{open_number, open_run};
