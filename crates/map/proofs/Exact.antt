@@ -1,7 +1,7 @@
 -- A whole number below 2 ^ 53 as a 64-bit float: nothing is lost. Assumes nothing.
 use mathlib.Core.Path.{◌≡◌, refl}
 use mathlib.Core.Bool.{false}
-use Prim.Native.Nat.{ℕ, ◌^◌, ◌≤◌, ◌<◌}
+use Prim.Native.Nat.{ℕ, ◌^◌, ◌<◌}
 use native.Mathlib.Nat.{le_of_lt, lt_of_lt_of_le}
 use lib.Dec.{T, le→leb, lit≤}
 use lib.IntN.{pos}

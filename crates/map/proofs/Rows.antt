@@ -1,10 +1,9 @@
 -- The answers of a row and of a figure, case by case. Assumes nothing.
-use mathlib.Core.Path.{◌≡◌, refl, ap, sym, subst, ◌∙◌}
-use mathlib.Core.Bool.{Bool, true, false, not, cond, ◌&&◌}
-use mathlib.Core.List.{List, [], ◌∷◌, map}
-use Prim.Native.Nat.{ℕ, ◌+◌, ◌*◌, ◌-◌, ◌^◌, ◌≤◌, ◌<◌}
+use mathlib.Core.Path.{◌≡◌, ap, sym, subst}
+use mathlib.Core.Bool.{true, false}
+use mathlib.Core.List.{List, [], ◌∷◌}
+use Prim.Native.Nat.{ℕ, ◌-◌, ◌^◌, ◌<◌}
 use native.Mathlib.Omega.{arith}
-use lib.Dec.{eqb}
 use lib.Ieee.{Float}
 use borrow.Author.Tests.{eq-eqb, ne_eqb}
 use Rattle.units.specs.declared.Refusal.{Refusal}
@@ -14,7 +13,6 @@ use Rattle.units.specs.Grounds.{first_fit}
 use Rattle.units.specs.Refusals.{refusal_number, verdict_number}
 use Rattle.units.specs.Rounding.{half_up}
 use Rattle.units.proofs.Refusals.{number_positive, taken_number, refused_number}
-use Rattle.units.proofs.Tests.{and_false}
 use Rattle.inventory.specs.declared.Run.{Run}
 use Rattle.inventory.specs.declared.Kind.{Kind}
 use Rattle.inventory.specs.declared.Kind.TheVariants.{Urban, Rural, Highway, Cold}
@@ -25,7 +23,7 @@ use Rattle.map.specs.declared.Row.{Row}
 use Rattle.map.specs.declared.RowAnswer.TheVariants as rows
 use Rattle.map.specs.declared.Figure.TheVariants.{Grams, NotGiven}
 use Rattle.map.specs.declared.FigureAnswer.TheVariants as figures
-use Rattle.map.specs.Floats.{float_of, Exactly, AllExact}
+use Rattle.map.specs.Floats.{Exactly, AllExact}
 use Rattle.map.specs.Map.{row_grams, row_answer, row_number, row_of, row_whole, field_of, not_given, figure_answer, figure_of, figure_whole}
 
 -- a printed kind at its place, and that a float holds it

@@ -1,5 +1,4 @@
 -- `map::exact_float` meets its contract. Assumes nothing.
-use Rattle.std.proofs.Common.{rules}
 use Rattle.map.proofs.Exact.{holds, exactly}
 use Rattle.map.proofs.exact_float.Goals as goal
 

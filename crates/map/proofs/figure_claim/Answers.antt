@@ -1,5 +1,4 @@
 -- `map::figure_claim` does nothing: what it ensures is the theorem. Assumes nothing.
-use Rattle.std.proofs.Common.{rules}
 use Rattle.map.proofs.Claim.{figure_claim}
 use Rattle.map.proofs.figure_claim.Goals as goal
 

@@ -1,6 +1,4 @@
 -- `map::row_of` meets its contract. Assumes nothing.
-use Rattle.std.proofs.Common.{rules}
-use mathlib.Core.Path.{◌≡◌, refl, sym, ap, ◌∙◌}
 use Prim.Native.Nat.{◌+◌, ◌*◌, ◌-◌}
 use native.Mathlib.Omega.{arith}
 use Rattle.units.proofs.Refusals.{taken_number}
@@ -10,7 +8,9 @@ use Rattle.map.proofs.Rows.{kind_read, kind_fits, row_refused, row_given}
 use Rattle.map.proofs.row_of.Goals as goal
 
 pub returns-in-Refused : goal.returns-in-Refused
-returns-in-Refused c = row_refused _ _ _ _ _ c.in-Refused.is c.question_verdict-v.ensures
+returns-in-Refused c =
+    let q = row_refused _ _ _ _ _ c.in-Refused.is c.question_verdict-v.ensures in
+    record { answer = q.0; exact = q.1 }
 
 pub overflow_sub-j : goal.overflow_sub-j
 overflow_sub-j c = let a = asked_of _ _ _ (taken_number _ _ c.in-Taken.is c.question_verdict-v.ensures) in omega arith
@@ -77,4 +77,6 @@ pub exact_float-requires-4 : goal.exact_float-requires-4
 exact_float-requires-4 c = let a = asked_of _ _ _ (taken_number _ _ c.in-Taken.is c.question_verdict-v.ensures) in kind_fits _ a.order (c.args.fuel - 1) (c.args.quantity - 1) 3 _ (omega arith) (omega arith) (omega arith) (kind_read _ (c.args.fuel - 1) (c.args.quantity - 1) 3 ((c.args.fuel - 1) * 20 + (c.args.quantity - 1) * 4 + 3) _ (omega arith) c.kind_at-c.ensures)
 
 pub returns : goal.returns
-returns c = row_given _ _ _ _ _ c.in-Taken.is c.question_verdict-v.ensures (rw (← (kind_read _ (c.args.fuel - 1) (c.args.quantity - 1) 0 ((c.args.fuel - 1) * 20 + (c.args.quantity - 1) * 4) _ (omega arith) c.kind_at-u.ensures)) c.exact_float.ensures) (rw (← (kind_read _ (c.args.fuel - 1) (c.args.quantity - 1) 1 ((c.args.fuel - 1) * 20 + (c.args.quantity - 1) * 4 + 1) _ (omega arith) c.kind_at-r.ensures)) c.exact_float-2.ensures) (rw (← (kind_read _ (c.args.fuel - 1) (c.args.quantity - 1) 2 ((c.args.fuel - 1) * 20 + (c.args.quantity - 1) * 4 + 2) _ (omega arith) c.kind_at-h.ensures)) c.exact_float-3.ensures) (rw (← (kind_read _ (c.args.fuel - 1) (c.args.quantity - 1) 3 ((c.args.fuel - 1) * 20 + (c.args.quantity - 1) * 4 + 3) _ (omega arith) c.kind_at-c.ensures)) c.exact_float-4.ensures)
+returns c =
+    let q = row_given _ _ _ _ _ c.in-Taken.is c.question_verdict-v.ensures (rw (← (kind_read _ (c.args.fuel - 1) (c.args.quantity - 1) 0 ((c.args.fuel - 1) * 20 + (c.args.quantity - 1) * 4) _ (omega arith) c.kind_at-u.ensures)) c.exact_float.ensures) (rw (← (kind_read _ (c.args.fuel - 1) (c.args.quantity - 1) 1 ((c.args.fuel - 1) * 20 + (c.args.quantity - 1) * 4 + 1) _ (omega arith) c.kind_at-r.ensures)) c.exact_float-2.ensures) (rw (← (kind_read _ (c.args.fuel - 1) (c.args.quantity - 1) 2 ((c.args.fuel - 1) * 20 + (c.args.quantity - 1) * 4 + 2) _ (omega arith) c.kind_at-h.ensures)) c.exact_float-3.ensures) (rw (← (kind_read _ (c.args.fuel - 1) (c.args.quantity - 1) 3 ((c.args.fuel - 1) * 20 + (c.args.quantity - 1) * 4 + 3) _ (omega arith) c.kind_at-c.ensures)) c.exact_float-4.ensures) in
+    record { answer = q.0; exact = q.1 }
