@@ -1,5 +1,6 @@
 // What the test programs share about adding: a record added so many times.
 #![tactic(auto)]
+
 ghost use Rattle.std.specs.Prelude.{◌≡◌};
 ghost use Rattle.units.specs.Refusals.{verdict_number};
 ghost use Rattle.harness_adds.specs.Adds.{add_times, last_number};
