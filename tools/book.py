@@ -22,15 +22,16 @@ pub const BOOK: [u64; {count}] = [
 
 PAGES = """// Page n of a lent table in the order of the factor book, each arm reading it at constant places, so that the compiler puts a
 // constant that is lent here into read-only memory. For that `page_at` must have one caller (docs/PERFORMANCE.md).
-ghost use mathlib.Core.Path.{{_≡_}};
-ghost use Prim.Native.Nat.{{_<_}};
-ghost use Rattle·book_lines.specs.Lines.{{pageOf}};
-use book_lines::page_from;
-use book_lines::page_last;
+#![tactic(auto)]
+
+ghost use Rattle.std.specs.Prelude.{{◌≡◌, ◌<◌}};
+ghost use Rattle.book_lines.specs.Lines.{{page_of}};
+
+use book_lines::{{page_from, page_last}};
 
 pub fn page_at(t: &[u64; {count}], n: usize) -> [[u64; 5]; 2]
-    requires {{ ⌜ n < {pages} ⌝ }}
-    ensures {{ λ r. ⌜ r ≡ pageOf (now (t .entry)) n ⌝ }}
+    requires {{ n < {pages} }}
+    ensures {{ result ≡ page_of t.now n }}
 {{
     match n {{
 {arms}        _ => page_last(t, n),
@@ -62,12 +63,18 @@ def book():
 
 
 def entries(table):
-    rows = []
+    """The entries as `rt fmt` lays them out: as many to a line as fit into 99 columns."""
+    rows, row = [], ""
     for (c, q, v), e in table.items():
+        word = " %d," % e
+        if v == SPEEDS[0] or len("   " + row + word) > 99:
+            rows.append(row)
+            row = ""
         if v == SPEEDS[0]:
-            rows.append("    // class %d, %s\n" % (c, q))
-        rows.append("    %d,\n" % e)
-    return WRITTEN + ENTRIES.format(count=len(table), entries="".join(rows))
+            rows.append(" // class %d, %s" % (c, q))
+        row += word
+    rows.append(row)
+    return WRITTEN + ENTRIES.format(count=len(table), entries="".join("   %s\n" % row for row in rows if row))
 
 
 def pages(table):
