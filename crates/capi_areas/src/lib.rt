@@ -1,6 +1,7 @@
 // The exports for C, Rust and Python over areas, which the caller lends: its struct of sixteen runs and the common use is 2,737
 // numbers. Answers are a number and values.
 #![tactic(auto)]
+
 ghost use Rattle.std.specs.Prelude.{◌≡◌};
 ghost use Rattle.areas.specs.Calls.{open_areas_number, open_areas_numbers, add_area_number, add_area_numbers, area_run_number, area_run};
 ghost use Rattle.capi_heads.specs.Heads.{head_from};
