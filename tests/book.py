@@ -106,7 +106,7 @@ def damaged():
 def reached(crate):
     """The crates below a crate, by crates.txt."""
     with open(os.path.join(ROOT, "crates.txt"), encoding="utf-8") as file:
-        below = {name: words.split() for name, words in re.findall(r"^(\w+):(.*)$", file.read(), re.M)}
+        below = {name: words.split() for name, words in re.findall(r"^(\w+)(?: staticlib)?:(.*)$", file.read(), re.M)}
     found, left = set(), [crate]
     while left:
         new = set(below.get(left.pop(), [])) - found
@@ -119,8 +119,8 @@ def callers():
     sources = {}
     for path in glob.glob(os.path.join(ROOT, "crates", "*", "src", "**", "*.rt"), recursive=True):
         with open(path, encoding="utf-8") as file:
-            # without comments
-            sources[os.path.relpath(path, ROOT)] = re.sub(r"//.*", "", file.read())
+            # without comments and clauses
+            sources[os.path.relpath(path, ROOT)] = re.sub(r"//.*|^ *(?:ghost use|requires|ensures)\b.*", "", file.read(), flags=re.M)
 
     def named(pattern):
         return sorted(path for path, text in sources.items() for _ in re.findall(pattern, text))

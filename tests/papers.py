@@ -160,7 +160,7 @@ def cited():
         source = os.path.join("crates", crate, "src", "lib.rt")
         there = os.path.exists(os.path.join(ROOT, source)) and bool(re.search(r"^pub fn %s\(" % function, read(source), re.M))
         same("README: %s::%s is there" % (crate, function), there, True)
-    listed = set(re.findall(r"^(\w+):", read("crates.txt"), re.M))
+    listed = set(re.findall(r"^(\w+)(?: staticlib)?:", read("crates.txt"), re.M))
     same("README: the table of crates", set(re.findall(r"`(\w+)`", "\n".join(row[0] for row in rows(README.split("## The repository")[1])))), listed)
     same("README: nothing is left to fill", re.findall(r"PLACEHOLDER\w*", README + PAGE), [])
 

@@ -92,7 +92,7 @@ class Names:
         rust, python = text_of("include/haldurap.rs"), text_of("examples/haldurap.py")
         self.declared.update(re.findall(r"\b(?:fn|struct|const) (\w+)", rust), re.findall(r"^(?:def|class) (\w+)", python, re.M))
         self.declared.update(re.findall(r"^(\w+) = namedtuple", python, re.M))
-        self.crates = [line.split(":")[0].strip() for line in text_of("crates.txt").splitlines() if ":" in line.split("#")[0]]
+        self.crates = [line.split(":")[0].split()[0] for line in text_of("crates.txt").splitlines() if ":" in line.split("#")[0]]
         self.edits = {}
         for path in files("crates/*/must-fail/*.edit"):
             self.edits.setdefault(path.split(os.sep)[1], set()).add(os.path.basename(path)[:-5])
