@@ -1,5 +1,6 @@
 // The exports for C, Rust and Python that make a run of a list or a sheet. Answers are a number and values.
 #![tactic(auto)]
+
 ghost use Rattle.std.specs.Prelude.{◌≡◌};
 ghost use Rattle.sheet.specs.Sheet.{sheet_of};
 ghost use Rattle.capi_heads.specs.Heads.{head_from};
