@@ -1,5 +1,6 @@
 // The text of a sheet to the text of its report.
 #![tactic(auto)]
+
 ghost use Rattle.std.specs.Prelude.{◌≡◌};
 ghost use Rattle.units.specs.Refusals.{verdict_number};
 ghost use Rattle.listing.specs.Report.{reported_answer};
