@@ -1,5 +1,6 @@
 // The text of the bytes that a program has read, for the program `report`.
 #![tactic(auto)]
+
 ghost use Rattle.std.specs.Prelude.{◌≡◌, ◌≤◌, length, take};
 ghost use Rattle.listing.specs.Report.{reported_answer, written};
 ghost use Rattle.reporting.specs.Reporting.{sheet_text, text_of, text_buffer};

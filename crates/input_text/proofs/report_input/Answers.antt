@@ -1,0 +1,16 @@
+-- `input_text::report_input` meets its contract. Assumes nothing.
+use Rattle.std.proofs.Common.{rules}
+use Rattle.input_text.proofs.Bounds.{fits, never}
+use Rattle.input_text.proofs.report_input.Goals as goal
+
+pub returns-in-Written : goal.returns-in-Written
+returns-in-Written c =
+    let a = c.args in
+    let e = c.report_first-r.ensures in
+    fits _ a.text.now _ _ (search rules) e.answer e.bytes _ c.in-Written.is
+
+pub returns-in-Refused : goal.returns-in-Refused
+returns-in-Refused c =
+    let a = c.args in
+    let e = c.report_first-r.ensures in
+    absurd (never _ a.text.now _ _ (search rules) e.answer e.bytes _ c.in-Refused.is)
