@@ -31,15 +31,15 @@ use Rattle.worked_joins.specs.Worked.{too_many, WorkedJoinsClaim}
 
 -- ---- full runs, joined
 
-same_head : heads_differ example_head example_head ≡ false
+same_head_lem : heads_differ example_head example_head ≡ false
 unfolding tab sum_to half_up has_own_x beta_reduction cold_share slopes cold_ratio cold_excess month_product cold_sum x_from cold_x some_xdiffers heads_differ
-same_head = refl
+same_head_lem = refl
 
 join_many : (m n : ℕ) → m ≤ 5000 → n ≤ 5000
     → join_number (history_run (opened example_head (many m))) (history_run (opened example_head (many n))) ≡ cond (ltb 5000 (m + n)) 22 0
 unfolding head_of history_reference joining_number full_together
 join_many m n h k =
-    history.number (opened example_head (many m)) (opened example_head (many n)) taken taken ∙ rw (same_head, reference_many m h, reference_many n k)
+    history.number (opened example_head (many m)) (opened example_head (many n)) taken taken ∙ rw (same_head_lem, reference_many m h, reference_many n k)
 
 many_taken : HeadsTaken too_many
 many_taken = (taken, taken)
