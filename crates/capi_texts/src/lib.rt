@@ -1,5 +1,6 @@
 // The exports for C, Rust and Python that write a report into a lent buffer. An answer is a number and values.
 #![tactic(auto)]
+
 ghost use Rattle.std.specs.Prelude.{◌≡◌};
 ghost use Rattle.listing.specs.Report.{reported_answer, report_of, report_buffer};
 ghost use Rattle.reporting.specs.Reporting.{text_buffer};
