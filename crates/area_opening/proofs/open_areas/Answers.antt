@@ -1,6 +1,5 @@
 -- `area_opening::open_areas` meets its contract. Assumes nothing.
 use native.Mathlib.Omega.{arith}
-use Prim.Native.Nat.{◌-◌}
 use lib.ListN.{length-set}
 use Rattle.units.specs.Refusals.{verdict_number, refusal_number}
 use Rattle.area_opening.proofs.Opening.{spread_none, spread_more, spread_done, open_short, open_number_lem, open_written}
@@ -8,7 +7,9 @@ use Rattle.area_opening.proofs.open_areas.Goals as goal
 
 pub returns-then-numbers-ne2737 : goal.returns-then-numbers-ne2737
 unfolding verdict_number refusal_number
-returns-then-numbers-ne2737 c = open_short _ c.args.head c.if-numbers-ne2737.true
+returns-then-numbers-ne2737 c =
+    let q = open_short _ c.args.head c.if-numbers-ne2737.true in
+    record { number = q.0; numbers = q.1 }
 
 pub loop-i-init : goal.loop-i-init
 loop-i-init c = (omega arith, c.if-numbers-ne2737.false, spread_none _ _ c.if-numbers-ne2737.false)
