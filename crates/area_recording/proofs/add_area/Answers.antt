@@ -14,13 +14,15 @@ pub returns-then-not-in_order : goal.returns-then-not-in_order
 unfolding verdict_number refusal_number
 returns-then-not-in_order c =
     let a = c.args in
-    numbers_kept a.numbers.now a.area a.rec 16 (add_unordered _ _ _ (sym c.in_order.ensures ∙ c.if-not-in_order.true)) refl
+    let k = numbers_kept a.numbers.now a.area a.rec 16 (add_unordered _ _ _ (sym c.in_order.ensures ∙ c.if-not-in_order.true)) refl in
+    record { number = k.0; numbers = k.1 }
 
 pub returns-then-area-gt15 : goal.returns-then-area-gt15
 unfolding verdict_number refusal_number
 returns-then-area-gt15 c =
     let a = c.args in let o = sym c.in_order.ensures ∙ c.if-not-in_order.false in
-    numbers_kept a.numbers.now a.area a.rec 17 (add_no_area _ _ _ o c.if-area-gt15.true) refl
+    let k = numbers_kept a.numbers.now a.area a.rec 17 (add_no_area _ _ _ o c.if-area-gt15.true) refl in
+    record { number = k.0; numbers = k.1 }
 
 pub run_at-run-requires : goal.run_at-run-requires
 run_at-run-requires c =
@@ -37,7 +39,8 @@ unfolding verdict_number
 returns-in-Refused c =
     let a = c.args in let l = a.numbers.now in let o = sym c.in_order.ensures ∙ c.if-not-in_order.false in
     let e = add_room l a.area a.rec o c.if-area-gt15.false _ c.run_at-run.ensures in
-    numbers_kept l a.area a.rec _ (sym (refused_number _ _ _ c.in-Refused.is (c.area_verdict-v.ensures ∙ e))) (number_positive _)
+    let k = numbers_kept l a.area a.rec _ (sym (refused_number _ _ _ c.in-Refused.is (c.area_verdict-v.ensures ∙ e))) (number_positive _) in
+    record { number = k.0; numbers = k.1 }
 
 pub run_with-r-requires : goal.run_with-r-requires
 run_with-r-requires c =
