@@ -3,6 +3,7 @@ use Rattle.std.proofs.Common.{rules}
 use Prim.Native.Nat.{◌+◌, ◌-◌}
 use mathlib.Core.Path.{refl, ap, sym, ◌∙◌}
 use native.Mathlib.Omega.{arith}
+use borrow.Author.Tests.{not-true, not-false}
 use lib.ListN.{length, drop}
 use Rattle.units.specs.Refusals.{refusal_number, verdict_number}
 use Rattle.units.proofs.Refusals.{number_positive, taken_number, refused_number}
@@ -52,7 +53,7 @@ returns-then-not-line c =
     let l = c.loop-at in
     let run = kept s.first.trip s.first.x l.count l.km l.whole l.rests in
     let h = c.loop-at-test.true in
-    gives_by (sym (misread s.s.now l.at run l.n h (not_ok _ (nine s.s.now l.at) c.record_at-line.ensures c.if-not-line.true)) ∙ l.invariant.4) c.sent_back-then-not-line.ensures
+    gives_by (sym (misread s.s.now l.at run l.n h (not_ok _ (nine s.s.now l.at) c.record_at-line.ensures (not-true _ c.if-not-line.true))) ∙ l.invariant.4) c.sent_back-then-not-line.ensures
 
 pub returns-in-Refused : goal.returns-in-Refused
 unfolding with_totals
@@ -65,7 +66,7 @@ returns-in-Refused c =
     let e = c.record_at-line.ensures in
     let rec = c.record_at-line.result.rec in
     let q = its_record _ (nine s.s.now l.at) e in
-    let t = read s.s.now l.at run l.n h (omega arith) c.if-s-at-ne10.false (is_ok _ (nine s.s.now l.at) e c.if-not-line.false) in
+    let t = read s.s.now l.at run l.n h (omega arith) c.if-s-at-ne10.false (is_ok _ (nine s.s.now l.at) e (not-false _ c.if-not-line.false)) in
     let v = c.add_verdict-v.ensures ∙ add_ordered run rec o in
     let r = rw q at (refused_number _ _ _ c.in-Refused.is v) in
     gives_by (sym (t ∙ decided_refused _ _ l.n _ r (number_positive _)) ∙ l.invariant.4) c.sent_back-in-Refused.ensures
@@ -122,12 +123,6 @@ overflow_add-count c =
     let y = ready run rec z in
     omega (arith, y.room)
 
-pub overflow_add-at-in-loop-at : goal.overflow_add-at-in-loop-at
-overflow_add-at-in-loop-at c = omega (arith, c.loop-at.invariant.0, c.loop-at.invariant.1, c.if-s-at-lt41.false, c.well-formed.0.0)
-
-pub overflow_add-n : goal.overflow_add-n
-overflow_add-n c = omega (arith, c.loop-at.invariant.0, c.loop-at.invariant.1, c.if-s-at-lt41.false, c.well-formed.0.0)
-
 pub loop-at-preserved : goal.loop-at-preserved
 unfolding with_totals
 loop-at-preserved c =
@@ -139,7 +134,7 @@ loop-at-preserved c =
     let e = c.record_at-line.ensures in
     let rec = c.record_at-line.result.rec in
     let q = its_record _ (nine s.s.now l.at) e in
-    let t = read s.s.now l.at run l.n h (omega arith) c.if-s-at-ne10.false (is_ok _ (nine s.s.now l.at) e c.if-not-line.false) in
+    let t = read s.s.now l.at run l.n h (omega arith) c.if-s-at-ne10.false (is_ok _ (nine s.s.now l.at) e (not-false _ c.if-not-line.false)) in
     let v = c.add_verdict-v.ensures ∙ add_ordered run rec o in
     let z = taken_number _ _ c.in-Taken.is v in
     let g = c.sums_with-whole.ensures in
