@@ -105,10 +105,10 @@ module _ (ws : List ℕ) (zs : List ℤ) (rest l : List ℕ) (r : Rendered ws zs
 
 -- ---- a record line
 
-counts_of : (ns : List ℕ) → counts_of (map pos ns) ≡ some ns
+counts_of_lem : (ns : List ℕ) → counts_of (map pos ns) ≡ some ns
 unfolding counts_of
-counts_of [] = refl
-counts_of (n ∷ ns) = rw (counts_of ns)
+counts_of_lem [] = refl
+counts_of_lem (n ∷ ns) = rw (counts_of_lem ns)
 
 record_fits : (rec : Record) → first_fit (record_grounds rec) ≡ 0 → AllFit record_widths (map pos (record_numbers rec))
 unfolding AllFit record_widths record_grounds
@@ -151,7 +151,7 @@ module _ (run : Run) (rec : Record) (z : add_number run rec ≡ 0) (rest : List 
   record_taken : record_of (take (line_length (render_record rec ++ rest)) (render_record rec ++ rest)) ≡ some rec
   record_taken =
       record_made (take (line_length (render_record rec ++ rest)) (render_record rec ++ rest))
-      ∙ rw (line_says record_widths (map pos (record_numbers rec)) rest (render_record rec ++ rest) record_rendered, counts_of (record_numbers rec))
+      ∙ rw (line_says record_widths (map pos (record_numbers rec)) rest (render_record rec ++ rest) record_rendered, counts_of_lem (record_numbers rec))
 
 pub records_taken : (run : Run) (n : ℕ) (recs : List Record) → TakenInTurn run recs
     → from_records run n (lines (render_records recs)) ≡ record { number = 0; line = 0; run = run_after run recs }
