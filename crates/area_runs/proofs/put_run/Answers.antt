@@ -1,10 +1,8 @@
 -- `area_runs::put_run` meets its contract. Assumes nothing.
 use Rattle.std.proofs.Common.{rules}
-use mathlib.Core.Path.{◌≡◌, ◌∙◌}
-use Prim.Native.Nat.{◌+◌}
-use native.Mathlib.Omega.{arith}
-use lib.ListN.{length, length-set}
-use Rattle.area_runs.proofs.Written.{put_size, run_put}
+use mathlib.Core.Path.{◌≡◌}
+use lib.ListN.{length}
+use Rattle.area_runs.proofs.Written.{run_put}
 use Rattle.area_runs.proofs.put_run.Goals as goal
 
 pub returns : goal.returns

@@ -1,5 +1,4 @@
 -- `balance::balance_claim` does nothing: what it ensures is the theorem. Assumes nothing.
-use Rattle.std.proofs.Common.{rules}
 use Rattle.balance.proofs.Digits.{whole}
 use Rattle.balance.proofs.balance_claim.Goals as goal
 

@@ -1,5 +1,4 @@
 -- `balance::fuel_used` meets its contract. Assumes nothing.
-use Rattle.std.proofs.Common.{rules}
 use mathlib.Core.Path.{◌≡◌, sym, ap, ◌∙◌}
 use native.Mathlib.Omega.{arith}
 use Rattle.balance.specs.Balance.{printed_fuel}

@@ -1,5 +1,4 @@
 -- `balance::ratio_in_range` meets its contract. Assumes nothing.
-use Rattle.std.proofs.Common.{rules}
 use mathlib.Core.Path.{sym, ◌∙◌}
 use mathlib.Core.Bool.{true, false}
 use Rattle.balance.proofs.Answers.{far, tested}

@@ -1,5 +1,4 @@
 -- `capi_heads::head_from` meets its contract. Assumes nothing.
-use Rattle.std.proofs.Common.{rules}
 use Rattle.capi_heads.proofs.head_from.Goals as goal
 
 pub returns : goal.returns

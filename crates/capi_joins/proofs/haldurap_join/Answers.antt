@@ -1,5 +1,4 @@
 -- `capi_joins::haldurap_join` meets its contract. Assumes nothing.
-use Rattle.std.proofs.Common.{rules}
 use Rattle.capi_answers.proofs.Crossing.{run_crosses}
 use Rattle.capi_joins.proofs.haldurap_join.Goals as goal
 

@@ -1,5 +1,4 @@
 -- `cold_values::cold_values` meets its contract: the code's constant is the table of specs/. Assumes nothing.
-use Rattle.std.proofs.Common.{rules}
 use mathlib.Core.Path.{refl}
 use Rattle.coldstart.specs.ColdStart.{pairs, slopes}
 use Rattle.cold_values.proofs.cold_values.Goals as goal

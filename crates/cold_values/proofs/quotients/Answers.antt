@@ -1,14 +1,13 @@
 -- `cold_values::quotients` meets its contract. Assumes nothing.
-use Rattle.std.proofs.Common.{rules}
 use mathlib.Core.Path.{◌≡◌, refl, sym, ap, ◌∙◌}
-use Prim.Native.Nat.{ℕ, ◌+◌, ◌*◌, ◌-◌, ◌/◌, ◌≤◌, ◌<◌}
+use Prim.Native.Nat.{ℕ, ◌+◌, ◌*◌, ◌-◌, ◌/◌, ◌<◌}
 use native.Mathlib.Omega.{arith}
 use Rattle.units.specs.Rounding.{half_up}
 use Rattle.units.proofs.Rounds.{half_up_even}
-use Rattle.units.proofs.Tab.{Filled, filled_none, filled_more, filled_at, filled}
+use Rattle.units.proofs.Tab.{filled_none, filled_more, filled_at, filled}
 use borrow.Author.Tests.{lt-ltb}
 use Rattle.classes.specs.Classes.{has_own_x, beta_reduction, x_count}
-use Rattle.coldstart.specs.ColdStart.{x_from, x_of_sums}
+use Rattle.coldstart.specs.ColdStart.{x_from}
 use Rattle.cold_values.proofs.quotients.Goals as goal
 
 -- n over the divisor that has this half, half up

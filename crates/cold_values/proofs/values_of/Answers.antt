@@ -1,18 +1,13 @@
 -- `cold_values::values_of` meets its contract. Assumes nothing.
-use Rattle.std.proofs.Common.{rules}
 use mathlib.Core.Path.{◌≡◌, refl, ap, ◌∙◌}
-use mathlib.Core.List.{List}
-use Prim.Native.Nat.{ℕ, ◌*◌, ◌≤◌, ◌<◌, ◌-◌}
+use Prim.Native.Nat.{◌*◌, ◌≤◌, ◌-◌}
 use native.Mathlib.Omega.{arith}
 use lib.IntN.{pos, nat_abs}
 use lib.ListN.{get_or}
 use Rattle.units.specs.Lists.{tab, sum_to}
 use Rattle.units.proofs.Rounds.{mul_most}
-use Rattle.units.proofs.Tab.{tab_at}
 use Rattle.classes.specs.Classes.{x_count}
-use Rattle.calendar.specs.declared.Period.{Period}
-use Rattle.calendar.specs.Periods.{month_weight}
-use Rattle.calendar.proofs.Periods.{weight_positive, weight_high, weight_most}
+use Rattle.calendar.proofs.Periods.{weight_positive, weight_high}
 use Rattle.coldstart.specs.ColdStart.{cold_share, with_month, x_of_sums}
 use Rattle.coldstart.proofs.ColdStart.{read, read_ok, share_whole, small_sums, sums_to, sums_more, sums_kept, sums_x}
 use Rattle.cold_values.proofs.values_of.Invariants.{weight_in, weight_is, light}

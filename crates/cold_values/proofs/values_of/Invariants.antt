@@ -1,17 +1,14 @@
 -- What the loops of `cold_values::values_of` keep. Assumes nothing.
-use mathlib.Core.Path.{◌≡◌, refl, ap, ◌∙◌}
+use mathlib.Core.Path.{◌≡◌}
 use mathlib.Core.List.{List}
-use Prim.Native.Nat.{ℕ, ◌*◌, ◌≤◌, ◌<◌, ◌-◌}
-use native.Mathlib.Omega.{arith}
+use Prim.Native.Nat.{ℕ, ◌≤◌, ◌<◌, ◌-◌}
 use lib.ListN.{get_or}
-use Rattle.units.specs.Lists.{tab, sum_to}
+use Rattle.units.specs.Lists.{tab}
 use Rattle.units.proofs.Tab.{tab_at}
-use Rattle.classes.specs.Classes.{x_count}
 use Rattle.calendar.specs.declared.Period.{Period}
 use Rattle.calendar.specs.Periods.{month_weight}
-use Rattle.calendar.proofs.Periods.{weight_positive, weight_high, weight_most}
-use Rattle.coldstart.specs.ColdStart.{cold_share, with_month, x_of_sums}
-use Rattle.coldstart.proofs.ColdStart.{read, read_ok, share_whole, small_sums, sums_to, sums_more, sums_kept, sums_x}
+use Rattle.calendar.proofs.Periods.{weight_most}
+use Rattle.coldstart.proofs.ColdStart.{sums_to}
 use Rattle.cold_values.proofs.values_of.Given as goal
 
 -- what the code's month k weighs

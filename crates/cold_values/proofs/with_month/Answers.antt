@@ -1,5 +1,4 @@
 -- `cold_values::with_month` meets its contract. Assumes nothing.
-use Rattle.std.proofs.Common.{rules}
 use mathlib.Core.Path.{◌≡◌, refl, sym, ap, subst, ◌∙◌}
 use Prim.Native.Nat.{◌≤◌, ◌<◌, ◌*◌, ◌+◌}
 use native.Mathlib.Omega.{arith}

@@ -1,5 +1,4 @@
 -- `fuel::content_verdict` meets its contract. Assumes nothing.
-use Rattle.std.proofs.Common.{rules}
 use Rattle.units.specs.Refusals.{verdict_number, refusal_number}
 use Rattle.fuel.proofs.Contents.{unasked, over, within}
 use Rattle.fuel.proofs.content_verdict.Goals as goal

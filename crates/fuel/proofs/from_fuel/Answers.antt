@@ -1,6 +1,5 @@
 -- `fuel::from_fuel` meets its contract. Assumes nothing.
-use Rattle.std.proofs.Common.{rules}
-use mathlib.Core.Path.{◌≡◌, sym}
+use mathlib.Core.Path.{sym}
 use Prim.Native.Nat.{◌-◌}
 use native.Mathlib.Omega.{arith}
 use Rattle.units.proofs.Refusals.{taken_number}

@@ -1,12 +1,12 @@
 -- `harness_records::head_of` meets its contract. Assumes nothing.
 use Rattle.std.proofs.Common.{rules}
-use Prim.Native.Nat.{◌≤◌, ◌-◌}
+use Prim.Native.Nat.{◌-◌}
 use mathlib.Core.Path.{◌≡◌, refl}
 use native.Mathlib.Omega.{arith}
 use mir.Syntax.{w64}
 use mir.Val.{to_z, of_z}
-use Rattle.units.proofs.Tab.{Filled, filled_none, filled_more, filled}
-use Rattle.harness_records.specs.Records.{temperature_at, head_at}
+use Rattle.units.proofs.Tab.{filled_none, filled_more, filled}
+use Rattle.harness_records.specs.Records.{head_at}
 use Rattle.harness_records.proofs.head_of.Goals as goal
 
 pub loop-k-init : goal.loop-k-init

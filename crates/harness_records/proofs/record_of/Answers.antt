@@ -1,6 +1,4 @@
 -- `harness_records::record_of` meets its contract. Assumes nothing.
-use Rattle.std.proofs.Common.{rules}
-use mathlib.Core.Path.{◌≡◌, refl, sym, ◌∙◌}
 use Rattle.harness_records.specs.Records.{record_at}
 use Rattle.harness_records.proofs.record_of.Goals as goal
 

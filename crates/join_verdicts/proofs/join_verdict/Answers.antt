@@ -1,8 +1,6 @@
 -- `join_verdicts::join_verdict` meets its contract. Assumes nothing.
-use Rattle.std.proofs.Common.{rules}
 use mathlib.Core.Path.{sym, ◌∙◌}
 use native.Mathlib.Omega.{arith}
-use borrow.Author.Tests.{not-true, not-false}
 use Rattle.units.specs.Refusals.{verdict_number, refusal_number}
 use Rattle.inventory.proofs.Order.{count_of}
 use Rattle.joins.proofs.Laws.{first_unordered, second_unordered, heads_differ_lem, too_many, good_join}

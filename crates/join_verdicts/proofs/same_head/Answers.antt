@@ -1,14 +1,11 @@
 -- `join_verdicts::same_head` meets its contract. Assumes nothing.
-use Rattle.std.proofs.Common.{rules}
-use mathlib.Core.Path.{◌≡◌, refl, sym, ◌∙◌}
-use mathlib.Core.Bool.{true}
-use Prim.Native.Nat.{◌≤◌, ◌-◌}
+use mathlib.Core.Path.{refl, sym, ◌∙◌}
+use Prim.Native.Nat.{◌-◌}
 use native.Mathlib.Omega.{arith}
 use borrow.Author.Tests.{eq-eqb, ne_eqb}
 use Rattle.units.specs.Lists.{all_below}
 use Rattle.units.proofs.Tests.{more, fails, done}
 use Rattle.classes.specs.Classes.{x_count}
-use Rattle.inventory.specs.Order.{same_x}
 use Rattle.inventory.proofs.Heads.{trip_differs, by_x}
 use Rattle.join_verdicts.proofs.same_head.Goals as goal
 

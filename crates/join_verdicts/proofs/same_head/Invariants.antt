@@ -1,14 +1,10 @@
 -- What the loops of `join_verdicts::same_head` keep. Assumes nothing.
-use mathlib.Core.Path.{◌≡◌, refl, sym, ◌∙◌}
+use mathlib.Core.Path.{◌≡◌}
 use mathlib.Core.Bool.{true}
 use Prim.Native.Nat.{◌≤◌, ◌-◌}
-use native.Mathlib.Omega.{arith}
-use borrow.Author.Tests.{eq-eqb, ne_eqb}
 use Rattle.units.specs.Lists.{all_below}
-use Rattle.units.proofs.Tests.{more, fails, done}
 use Rattle.classes.specs.Classes.{x_count}
 use Rattle.inventory.specs.Order.{same_x}
-use Rattle.inventory.proofs.Heads.{trip_differs, by_x}
 use Rattle.join_verdicts.proofs.same_head.Given as goal
 
 abbrev pub invariant-loop-k : goal.invariant-loop-k

@@ -1,5 +1,4 @@
 -- `joining::join` meets its contract. Assumes nothing.
-use Rattle.std.proofs.Common.{rules}
 use mathlib.Core.Path.{sym, ◌∙◌}
 use Rattle.units.specs.Refusals.{verdict_number}
 use Rattle.units.proofs.Refusals.{number_positive, taken_number, refused_number}

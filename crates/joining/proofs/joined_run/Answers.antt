@@ -1,17 +1,14 @@
 -- `joining::joined_run` meets its contract. Assumes nothing.
 use Rattle.std.proofs.Common.{rules}
-use mathlib.Core.Path.{◌≡◌, refl, ap, ◌∙◌}
-use Prim.Native.Nat.{◌≤◌, ◌-◌}
+use mathlib.Core.Path.{refl, ap, ◌∙◌}
+use Prim.Native.Nat.{◌-◌}
 use native.Mathlib.Omega.{arith}
-use lib.ListN.{length}
-use Rattle.units.specs.Lists.{tab}
-use Rattle.units.proofs.Tab.{Filled, filled_none, filled_more, filled}
+use Rattle.units.proofs.Tab.{filled_none, filled_more, filled}
 use Rattle.units.proofs.Between.{length_of}
 use Rattle.inventory.specs.Order.{sum_at}
-use Rattle.inventory.specs.Adding.{total_grams_made, total_rest_made}
 use Rattle.inventory.proofs.Amounts.{sum_amount, total_amount}
-use Rattle.joins.specs.Joining.{km_joined, slot_joined, grams_joined, rest_joined, added_up}
-use Rattle.joining.proofs.Sums.{Begun, made, total_both}
+use Rattle.joins.specs.Joining.{km_joined, slot_joined}
+use Rattle.joining.proofs.Sums.{made, total_both}
 use Rattle.joining.proofs.joined_run.Goals as goal
 
 pub overflow_add-count : goal.overflow_add-count

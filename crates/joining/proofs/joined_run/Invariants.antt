@@ -1,16 +1,12 @@
 -- What the loops of `joining::joined_run` keep. Assumes nothing.
-use mathlib.Core.Path.{◌≡◌, refl, ap, ◌∙◌}
+use mathlib.Core.Path.{◌≡◌}
 use Prim.Native.Nat.{◌≤◌, ◌-◌}
-use native.Mathlib.Omega.{arith}
 use lib.ListN.{length}
 use Rattle.units.specs.Lists.{tab}
-use Rattle.units.proofs.Tab.{Filled, filled_none, filled_more, filled}
-use Rattle.units.proofs.Between.{length_of}
-use Rattle.inventory.specs.Order.{sum_at}
+use Rattle.units.proofs.Tab.{Filled}
 use Rattle.inventory.specs.Adding.{total_grams_made, total_rest_made}
-use Rattle.inventory.proofs.Amounts.{sum_amount, total_amount}
-use Rattle.joins.specs.Joining.{km_joined, slot_joined, grams_joined, rest_joined, added_up}
-use Rattle.joining.proofs.Sums.{Begun, made, total_both}
+use Rattle.joins.specs.Joining.{km_joined, grams_joined, rest_joined, added_up}
+use Rattle.joining.proofs.Sums.{Begun}
 use Rattle.joining.proofs.joined_run.Given as goal
 
 abbrev pub invariant-loop-k : goal.invariant-loop-k

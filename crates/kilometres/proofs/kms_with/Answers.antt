@@ -1,6 +1,6 @@
 -- `kilometres::kms_with` meets its contract. Assumes nothing.
 use Rattle.std.proofs.Common.{rules}
-use Prim.Native.Nat.{◌+◌, ◌*◌, ◌≤◌}
+use Prim.Native.Nat.{◌*◌, ◌≤◌}
 use native.Mathlib.Omega.{arith}
 use Rattle.units.proofs.Between.{length_of}
 use Rattle.inventory.specs.Records.{vehicle_km}

@@ -1,5 +1,4 @@
 -- `lines::count_at` meets its contract. Assumes nothing.
-use Rattle.std.proofs.Common.{rules}
 use Rattle.lines.proofs.Signs.{count_said}
 use Rattle.lines.proofs.count_at.Goals as goal
 

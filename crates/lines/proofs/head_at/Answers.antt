@@ -1,5 +1,4 @@
 -- `lines::head_at` meets its contract. Assumes nothing.
-use Rattle.std.proofs.Common.{rules}
 use mathlib.Core.Path.{sym, ap, ◌∙◌}
 use borrow.Author.Tests.{not-true, not-false}
 use Rattle.lines.specs.Reading.{head_case}

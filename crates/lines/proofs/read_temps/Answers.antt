@@ -1,6 +1,6 @@
 -- `lines::read_temps` meets its contract. Assumes nothing.
 use Rattle.std.proofs.Common.{rules}
-use Prim.Native.Nat.{◌+◌, ◌-◌, ◌*◌, ◌≤◌, ◌<◌}
+use Prim.Native.Nat.{◌-◌, ◌≤◌, ◌<◌}
 use mathlib.Core.Path.{◌≡◌, refl, sym, ap, ◌∙◌}
 use native.Mathlib.Omega.{arith}
 use lib.IntN.{pos}
@@ -8,7 +8,7 @@ use lib.ListN.{length, length-set, replicate}
 use mir.Syntax.{w64}
 use mir.Val.{to_z, of_z}
 use Rattle.lines.specs.Reading.{temps_case}
-use Rattle.lines.proofs.Heads.{place, place_zero, fives, missing, filled, full}
+use Rattle.lines.proofs.Heads.{place_zero, missing, filled, full}
 use Rattle.lines.proofs.read_temps.Goals as goal
 
 pub loop-j-init : goal.loop-j-init

@@ -1,12 +1,8 @@
 -- What the loops of `lines::read_temps` keep. Assumes nothing.
-use Prim.Native.Nat.{◌+◌, ◌-◌, ◌*◌, ◌≤◌, ◌<◌}
-use mathlib.Core.Path.{◌≡◌, refl, sym, ap, ◌∙◌}
-use native.Mathlib.Omega.{arith}
-use lib.ListN.{length, length-set}
-use mir.Syntax.{w64}
-use mir.Val.{to_z, of_z}
-use Rattle.lines.specs.Reading.{temps_case}
-use Rattle.lines.proofs.Heads.{place, place_zero, fives, missing, filled, full}
+use Prim.Native.Nat.{◌+◌, ◌-◌, ◌*◌, ◌≤◌}
+use mathlib.Core.Path.{◌≡◌}
+use lib.ListN.{length}
+use Rattle.lines.proofs.Heads.{place, fives}
 use Rattle.lines.proofs.read_temps.Given as goal
 
 abbrev pub invariant-loop-j : goal.invariant-loop-j

@@ -1,5 +1,4 @@
 -- `lines::record_at` meets its contract. Assumes nothing.
-use Rattle.std.proofs.Common.{rules}
 use native.Mathlib.Omega.{arith}
 use Rattle.lines.specs.Lines.{record_widths}
 use Rattle.lines.specs.Reading.{fields_from, counts_in}

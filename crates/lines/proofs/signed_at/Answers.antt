@@ -1,5 +1,4 @@
 -- `lines::signed_at` meets its contract. Assumes nothing.
-use Rattle.std.proofs.Common.{rules}
 use Prim.Native.Nat.{◌+◌, ◌-◌}
 use mathlib.Core.Path.{sym, ◌∙◌}
 use lib.ListN.{take, drop}

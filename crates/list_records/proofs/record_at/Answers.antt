@@ -1,5 +1,4 @@
 -- `list_records::record_at` meets its contract. Assumes nothing.
-use Rattle.std.proofs.Common.{rules}
 use mathlib.Core.Path.{refl}
 use Rattle.list_records.specs.Record.{record_at}
 use Rattle.list_records.proofs.record_at.Goals as goal

@@ -1,5 +1,4 @@
 -- `stored_totals::carry_of` meets its contract. Assumes nothing.
-use Rattle.std.proofs.Common.{rules}
 use native.Mathlib.Omega.{arith}
 use Rattle.stored_totals.proofs.Carries.{carry_low, carry_is}
 use Rattle.stored_totals.proofs.carry_of.Goals as goal

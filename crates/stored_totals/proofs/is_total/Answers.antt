@@ -1,5 +1,4 @@
 -- `stored_totals::is_total` meets its contract. Assumes nothing.
-use Rattle.std.proofs.Common.{rules}
 use mathlib.Core.Path.{ap, ◌∙◌}
 use Prim.Native.Nat.{◌+◌}
 use Rattle.stored_totals.specs.Carries.{rest_ok}

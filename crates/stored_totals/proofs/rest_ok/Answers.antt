@@ -1,5 +1,4 @@
 -- `stored_totals::rest_ok` meets its contract. Assumes nothing.
-use Rattle.std.proofs.Common.{rules}
 use native.Mathlib.Omega.{arith}
 use Rattle.stored_totals.proofs.Carries.{rest_over, rest_big, rest_is}
 use Rattle.stored_totals.proofs.rest_ok.Goals as goal

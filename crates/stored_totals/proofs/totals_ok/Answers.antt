@@ -1,16 +1,13 @@
 -- `stored_totals::totals_ok` meets its contract. Assumes nothing.
 use Rattle.std.proofs.Common.{rules}
-use mathlib.Core.Path.{◌≡◌, refl, sym, ◌∙◌}
-use mathlib.Core.Bool.{true}
-use Prim.Native.Nat.{◌-◌, ◌≤◌}
+use mathlib.Core.Path.{refl, sym, ◌∙◌}
+use Prim.Native.Nat.{◌-◌}
 use native.Mathlib.Omega.{arith}
-use borrow.Author.Tests.{not-true, not-false}
 use Rattle.units.specs.Lists.{all_below}
-use Rattle.units.proofs.Tab.{Filled, filled_none, filled_more, filled}
+use Rattle.units.proofs.Tab.{filled_none, filled_more, filled}
 use Rattle.units.proofs.Tests.{more, fails, done}
-use Rattle.inventory.specs.Order.{total_ok}
 use Rattle.inventory.proofs.Order.{rest_passed}
-use Rattle.stored_totals.proofs.Carries.{carry_at, grams_limit, too_much, told_at}
+use Rattle.stored_totals.proofs.Carries.{grams_limit, too_much, told_at}
 use Rattle.stored_totals.proofs.totals_ok.Goals as goal
 
 pub loop-i-init : goal.loop-i-init

@@ -1,15 +1,11 @@
 -- What the loops of `stored_totals::totals_ok` keep. Assumes nothing.
-use mathlib.Core.Path.{◌≡◌, refl, sym, ◌∙◌}
+use mathlib.Core.Path.{◌≡◌}
 use mathlib.Core.Bool.{true}
 use Prim.Native.Nat.{◌-◌, ◌≤◌}
-use native.Mathlib.Omega.{arith}
-use borrow.Author.Tests.{not-true, not-false}
 use Rattle.units.specs.Lists.{all_below}
-use Rattle.units.proofs.Tab.{Filled, filled_none, filled_more, filled}
-use Rattle.units.proofs.Tests.{more, fails, done}
+use Rattle.units.proofs.Tab.{Filled}
 use Rattle.inventory.specs.Order.{total_ok}
-use Rattle.inventory.proofs.Order.{rest_passed}
-use Rattle.stored_totals.proofs.Carries.{carry_at, grams_limit, too_much, told_at}
+use Rattle.stored_totals.proofs.Carries.{carry_at}
 use Rattle.stored_totals.proofs.totals_ok.Given as goal
 
 abbrev pub invariant-loop-i : goal.invariant-loop-i

@@ -1,12 +1,12 @@
 -- `sums::sums_with` meets its contract. Assumes nothing.
 use Rattle.std.proofs.Common.{rules}
-use mathlib.Core.Path.{◌≡◌, refl, ap, sym, ◌∙◌}
+use mathlib.Core.Path.{◌≡◌, ap}
 use Prim.Native.Nat.{◌+◌, ◌*◌, ◌-◌, ◌≤◌, ◌<◌}
 use native.Mathlib.Omega.{arith}
-use Rattle.units.proofs.Between.{Between, between_none, between_more, length_of}
+use Rattle.units.proofs.Between.{between_none, between_more, length_of}
 use Rattle.classes.specs.Classes.{fuel_of}
 use Rattle.inventory.specs.Records.{vehicle_km}
-use Rattle.inventory.specs.Adding.{grams_after, rest_after, slot_after}
+use Rattle.inventory.specs.Adding.{slot_after}
 use Rattle.sums.specs.Parts.{of_sums}
 use Rattle.sums.proofs.Slots.{factor_most, rate_small, hot_made, cold_made, above_grams, slot_small}
 use Rattle.kilometres.proofs.Made.{fuel_most}

@@ -1,15 +1,8 @@
 -- What the loops of `sums::sums_with` keep. Assumes nothing.
-use mathlib.Core.Path.{◌≡◌, refl, ap, sym, ◌∙◌}
-use Prim.Native.Nat.{◌+◌, ◌*◌, ◌-◌, ◌≤◌, ◌<◌}
-use native.Mathlib.Omega.{arith}
-use Rattle.units.proofs.Between.{Between, between_none, between_more, length_of}
-use Rattle.classes.specs.Classes.{fuel_of}
-use Rattle.inventory.specs.Records.{vehicle_km}
-use Rattle.inventory.specs.Adding.{grams_after, rest_after, slot_after}
+use Prim.Native.Nat.{◌+◌, ◌*◌, ◌-◌, ◌≤◌}
+use Rattle.units.proofs.Between.{Between}
+use Rattle.inventory.specs.Adding.{grams_after, rest_after}
 use Rattle.sums.specs.Parts.{of_sums}
-use Rattle.sums.proofs.Slots.{factor_most, rate_small, hot_made, cold_made, above_grams, slot_small}
-use Rattle.kilometres.proofs.Made.{fuel_most}
-use Rattle.sums.proofs.Made.{made}
 use Rattle.sums.proofs.sums_with.Given as goal
 
 abbrev pub invariant-loop-q : goal.invariant-loop-q

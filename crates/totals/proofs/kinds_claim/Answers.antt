@@ -1,5 +1,4 @@
 -- `totals::kinds_claim` does nothing: what it ensures is the theorem. Assumes nothing.
-use Rattle.std.proofs.Common.{rules}
 use Rattle.totals.proofs.Near.{whole}
 use Rattle.totals.proofs.kinds_claim.Goals as goal
 

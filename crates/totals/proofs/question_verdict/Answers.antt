@@ -1,7 +1,5 @@
 -- `totals::question_verdict` meets its contract. Assumes nothing.
-use Rattle.std.proofs.Common.{rules}
 use mathlib.Core.Path.{sym, ◌∙◌}
-use borrow.Author.Tests.{not-true, not-false}
 use Rattle.units.specs.Refusals.{verdict_number, refusal_number}
 use Rattle.inventory.proofs.Totals.{refused_order, refused_fuel, refused_quantity, asked}
 use Rattle.totals.proofs.question_verdict.Goals as goal

@@ -1,5 +1,4 @@
 -- `totals::total` meets its contract. Assumes nothing.
-use Rattle.std.proofs.Common.{rules}
 use native.Mathlib.Omega.{arith}
 use Rattle.units.proofs.Refusals.{taken_number}
 use Rattle.inventory.specs.Printed.{total_of}
