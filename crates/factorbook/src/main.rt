@@ -1,11 +1,14 @@
 // Prints the factor book from the curves, one number a line: every class but 5, every quantity and every whole speed from 10 to
 // 130, in that order. Its stored output is the book, of which tools/book.py makes the constant.
 #![tactic(auto)]
-fn main() {
+
+use std::io;
+
+fn main(rt: HostRuntime) -> io::Result<()> {
     let mut i: u64 = 0;
     while i < 3630 {
-        io::print_decimal(1, book_entries::entry_of(i));
-        io::write_all(1, b"\n");
+        println!(rt; "{}", book_entries::entry_of(i))?;
         i += 1;
     }
+    Ok(())
 }

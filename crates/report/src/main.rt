@@ -1,97 +1,106 @@
 // The program `report`: a sheet on standard input to its report on standard output; what fails is told on standard error.
 #![tactic(auto)]
-use libc::{EINTR, STDERR_FILENO, STDIN_FILENO, STDOUT_FILENO};
+
+ghost use Rattle.std.specs.Prelude.{ℕ, ◌≤◌, ◌<◌, length, take, IfOk, IfSome, OnOk, OnErr};
+ghost use Rattle.std.specs.Io.KnownBytes.{Appends, Consumes, IsAtEnd};
+ghost use Rattle.reporting.specs.Reporting.{sheet_text};
+ghost use Rattle.report.specs.Prints.{Prints};
+
+use std::io;
+use std::io::{ErrorKind, Read, Write};
 
 // So often at most an interrupted call is tried again.
 const TRIES: usize = 1000000;
 
-// What came in: so many bytes up to the end or the limit, or a read that failed.
-#[derive(Clone, Copy)]
-enum Input {
-    Bytes(usize),
-    Failed,
-}
-
-// Reads standard input until it ends or the bytes are full.
-fn read_input(input: &mut [u8]) -> Input {
+// Reads until the input ends or the bytes are full; how many came.
+fn read_input<R: Read>(reader: &mut R, input: &mut [u8]) -> io::Result<usize>
+    ensures within { IfOk result (λ n. n ≤ length input.new) }
+    ensures bytes { IfOk result (λ n. Consumes (R.remaining reader.old) (R.remaining reader.new) (take n input.new)) }
+    ensures end { IfOk result (λ n. n < length input.new → IsAtEnd (R.remaining reader.new)) }
+{
     let mut n: usize = 0;
     let mut tries = TRIES;
     while n < input.len() {
-        let rest = &mut input[n..];
-        let got = libc::read(STDIN_FILENO, rest);
-        let came = io::count(got, rest);
-        if came != 0 {
-            n += came;
-            continue;
+        match reader.read(&mut input[n..]) {
+            Ok(0) => return Ok(n),
+            Ok(came) => n += came,
+            Err(e) => {
+                if e.kind() != ErrorKind::Interrupted || tries == 0 {
+                    return Err(e);
+                }
+                tries -= 1;
+            }
         }
-        if got == 0 {
-            return Input::Bytes(n);
-        }
-        if os::errno() != EINTR {
-            return Input::Failed;
-        }
-        if tries == 0 {
-            return Input::Failed;
-        }
-        tries -= 1;
     }
-    Input::Bytes(n)
+    Ok(n)
 }
 
-// What went out: the whole text, or a part before a write that failed or that took no byte.
-#[derive(Clone, Copy)]
-enum Output {
-    Whole,
-    Failed,
-    Stuck,
-}
-
-// Writes the text to standard output.
-fn write_text(text: &[u8]) -> Output {
+// Writes the whole text, or a part before a write that fails or takes no byte.
+fn write_text<W: Write>(writer: &mut W, text: &[u8]) -> io::Result<()>
+    ensures whole { OnOk result (Appends (W.contents writer.old) (W.contents writer.new) text.now) }
+    ensures part { OnErr result ((n : ℕ) × Appends (W.contents writer.old) (W.contents writer.new) (take n text.now)) }
+{
     let mut n: usize = 0;
     let mut tries = TRIES;
     while n < text.len() {
-        let rest = &text[n..];
-        let put = libc::write(STDOUT_FILENO, rest);
-        let went = io::count(put, rest);
-        if went != 0 {
-            n += went;
-            continue;
+        match writer.write(&text[n..]) {
+            Ok(0) => return Err(io::Error::new(ErrorKind::WriteZero, "no byte was taken")),
+            Ok(went) => n += went,
+            Err(e) => {
+                if e.kind() != ErrorKind::Interrupted || tries == 0 {
+                    return Err(e);
+                }
+                tries -= 1;
+            }
         }
-        if put == 0 {
-            return Output::Stuck;
-        }
-        if os::errno() != EINTR {
-            return Output::Failed;
-        }
-        if tries == 0 {
-            return Output::Failed;
-        }
-        tries -= 1;
     }
-    Output::Whole
+    Ok(())
 }
 
-fn main() {
-    let mut input = [0u8; 65537];
-    let came = read_input(&mut input);
-    let Input::Bytes(n) = came else {
-        os::fail(b"report: reading standard input");
-        return;
-    };
+// What failed, and why.
+#[derive(Clone, Copy)]
+enum Trouble {
+    Reading(io::Error),
+    Writing(io::Error),
+}
+
+// The text of the bytes that were read, to the writer.
+fn write_report<W: Write>(writer: &mut W, input: &[u8; 65537], read: usize) -> Result<(), Trouble>
+    ensures { Prints (W.contents writer.old) (W.contents writer.new) (sheet_text (take read input.now)) result }
+{
     let mut text = [0u8; 1455];
-    let m = input_text::report_input(&input, n, &mut text);
-    let went = write_text(&text[0..m]);
-    match went {
-        Output::Whole => {}
-        Output::Failed => {
-            os::fail(b"report: writing standard output");
+    let n = input_text::report_input(input, read, &mut text);
+    match write_text(writer, &text[..n]) {
+        Ok(()) => Ok(()),
+        Err(e) => Err(Trouble::Writing(e)),
+    }
+}
+
+// The text of what the reader gives, to the writer.
+fn report<R: Read, W: Write>(reader: &mut R, writer: &mut W) -> Result<(), Trouble>
+    ensures { IfSome (R.remaining reader.old) (λ bytes. Prints (W.contents writer.old) (W.contents writer.new) (sheet_text (take 65537 bytes)) result) }
+{
+    let mut input = [0u8; 65537];
+    match read_input(reader, &mut input) {
+        Ok(n) => write_report(writer, &input, n),
+        Err(e) => Err(Trouble::Reading(e)),
+    }
+}
+
+// Says on standard error what failed, and the system's reason without its number.
+fn tell(rt: &(impl Eprint + AllocGlobal), what: &str, e: io::Error) -> io::Result<()> {
+    if let Ok(said) = format!(in rt.alloc(); "{e}") {
+        if let Some((reason, _)) = said.split_once(" (os error ") {
+            return eprintln!(rt; "report: {what}: {reason}");
         }
-        Output::Stuck => {
-            io::write_all(
-                STDERR_FILENO,
-                b"report: writing standard output: no byte was taken\n",
-            );
-        }
+    }
+    eprintln!(rt; "report: {what}: {e}")
+}
+
+fn main(rt: HostRuntime) -> io::Result<()> {
+    match report(&mut rt.stdin(), &mut rt.stdout()) {
+        Ok(()) => Ok(()),
+        Err(Trouble::Reading(e)) => tell(&rt, "reading standard input", e),
+        Err(Trouble::Writing(e)) => tell(&rt, "writing standard output", e),
     }
 }

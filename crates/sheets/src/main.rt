@@ -5,40 +5,32 @@
 // `= LABEL` and a line end: the sheet is whole. Its answer is the label, the number, the line, and the word `zeros` for a
 // run of zeros, else every field of the run and the printed totals.
 #![tactic(auto)]
+
+use harness_prints::{print, print_part};
 use inventory::Run;
-use libc::STDOUT_FILENO;
 use sheet::Sheet;
-
-// A space and a number.
-fn print(n: u64) {
-    io::write_all(STDOUT_FILENO, b" ");
-    io::print_decimal(STDOUT_FILENO, n);
-}
-
-// The bytes from a place to another.
-fn print_part(b: &[u8], from: usize, to: usize) {
-    if from <= to && to <= b.len() {
-        io::write_all(STDOUT_FILENO, &b[from..to]);
-    }
-}
+use std::io;
+use std::io::{Read, Write};
 
 // Every number of a run.
-fn print_fields(run: Run) {
+fn print_fields(out: &mut impl Write, run: Run) -> io::Result<()> {
     let mut i: usize = 0;
     while i < 171 {
-        print(harness_runs::field_at(run, i));
+        print(out, harness_runs::field_at(run, i))?;
         i += 1;
     }
+    Ok(())
 }
 
 // The five totals of a fuel; 0 for one that is refused, which none of a sheet's run is.
-fn print_totals(run: Run, fuel: u64) {
+fn print_totals(out: &mut impl Write, run: Run, fuel: u64) -> io::Result<()> {
     let mut q: u64 = 1;
     while q < 6 {
         let a = harness_runs::answer_of(totals::total(run, fuel, q));
-        print(a.grams.0);
+        print(out, a.grams.0)?;
         q += 1;
     }
+    Ok(())
 }
 
 // Whether a run is the run of zeros.
@@ -55,30 +47,30 @@ fn is_zero(run: Run) -> bool {
 }
 
 // The word `zeros`, or every field and the totals.
-fn print_run(run: Run) {
+fn print_run(out: &mut impl Write, run: Run) -> io::Result<()> {
     if is_zero(run) {
-        io::write_all(STDOUT_FILENO, b" zeros");
-        return;
+        return out.write_all(b" zeros");
     }
-    print_fields(run);
-    print_totals(run, 1);
-    print_totals(run, 2);
-    print_totals(run, 3);
+    print_fields(out, run)?;
+    print_totals(out, run, 1)?;
+    print_totals(out, run, 2)?;
+    print_totals(out, run, 3)
 }
 
 // The number, the line and the run of a sheet.
-fn print_sheet(s: Sheet) {
+fn print_sheet(out: &mut impl Write, s: Sheet) -> io::Result<()> {
     let v = s.verdict;
-    print(units::verdict_number(v));
-    print(s.line as u64);
-    print_run(s.run);
+    print(out, units::verdict_number(v))?;
+    print(out, s.line as u64)?;
+    print_run(out, s.run)
 }
 
 // The answer for the first bytes, as many as the sheet has.
-fn answer(bytes: &[u8], len: usize) {
+fn answer(out: &mut impl Write, bytes: &[u8], len: usize) -> io::Result<()> {
     if len <= bytes.len() {
-        print_sheet(sheet::read_sheet(&bytes[..len]));
+        print_sheet(out, sheet::read_sheet(&bytes[..len]))?;
     }
+    Ok(())
 }
 
 // A byte stored at a place; the place behind it.
@@ -135,44 +127,47 @@ fn next(b: &[u8], at: usize) -> usize {
 }
 
 // The sheet's length after a line; a whole sheet is answered, and the next one is empty.
-fn line(b: &[u8], at: usize, bytes: &mut [u8], len: usize) -> usize {
+fn line(
+    out: &mut impl Write,
+    b: &[u8],
+    at: usize,
+    bytes: &mut [u8],
+    len: usize,
+) -> io::Result<usize> {
     if harness_lines::byte_at(b, at) == b'+' {
         let from = harness_lines::behind(b, harness_lines::line_end(b, at));
-        return append_times(
+        return Ok(append_times(
             b,
             from,
             harness_lines::number(b, at, 2),
             bytes,
             len,
             harness_lines::number(b, at, 1),
-        );
+        ));
     }
     print_part(
+        out,
         b,
         harness_lines::word(b, at, 1),
         harness_lines::line_end(b, at),
-    );
-    io::write_all(STDOUT_FILENO, b" =");
-    answer(bytes, len);
-    io::write_all(STDOUT_FILENO, b"\n");
-    0
+    )?;
+    out.write_all(b" =")?;
+    answer(out, bytes, len)?;
+    out.write_all(b"\n")?;
+    Ok(0)
 }
 
 // Every line, one after another.
-fn lines(b: &[u8], bytes: &mut [u8]) {
+fn lines(out: &mut impl Write, b: &[u8], bytes: &mut [u8]) -> io::Result<()> {
     let mut at: usize = 0;
     let mut len: usize = 0;
     let mut turns: u64 = 0;
     while turns < 100000 && at < b.len() {
-        len = line(b, at, bytes, len);
+        len = line(out, b, at, bytes, len)?;
         at = next(b, at);
         turns += 1;
     }
-}
-
-// Room for the cases.
-fn case_space() -> [u8; 1048576] {
-    [0; 1048576]
+    Ok(())
 }
 
 // Room for one sheet.
@@ -180,9 +175,12 @@ fn sheet_space() -> [u8; 262144] {
     [0; 262144]
 }
 
-fn main() {
-    let mut b = case_space();
+// At most so many bytes of cases are read.
+const ROOM: u64 = 1048576;
+
+fn main(rt: HostRuntime) -> io::Result<()> {
+    let mut cases = Vec::new(rt.alloc());
     let mut bytes = sheet_space();
-    let n = io::read_full(0, &mut b);
-    lines(&b[..n], &mut bytes);
+    rt.reader().take(ROOM).read_to_end(&mut cases)?;
+    lines(&mut rt.stdout(), &cases, &mut bytes)
 }

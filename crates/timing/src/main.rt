@@ -1,7 +1,9 @@
 // Fills 400 runs with 5,000 records each and prints the sums: the time of an add, beside bench/add_in_place.rs.
 #![tactic(auto)]
+
 use calendar::Period;
 use inventory::{Head, Record, Run, Shares, Speeds};
+use std::io;
 use units::Speed;
 
 // Record i of the fleet: all seven classes in turn.
@@ -34,31 +36,27 @@ fn filled(run: Run) -> Run {
     r
 }
 
-fn print_run(run: Run) {
+fn print_run(rt: &impl Print, run: Run) -> io::Result<()> {
     let mut j: usize = 0;
     while j < 60 {
         let g = run.grams[j];
-        io::print_decimal(1, g.0);
-        io::write_all(1, b" ");
-        io::print_decimal(1, run.rests[j]);
-        io::write_all(1, b"\n");
+        println!(rt; "{} {}", g.0, run.rests[j])?;
         j += 1;
     }
+    Ok(())
 }
 
-fn print_totals(run: Run) {
+fn print_totals(rt: &impl Print, run: Run) -> io::Result<()> {
     let mut k: usize = 0;
     while k < 15 {
         let g = run.total_grams[k];
-        io::print_decimal(1, g.0);
-        io::write_all(1, b" ");
-        io::print_decimal(1, run.total_rests[k]);
-        io::write_all(1, b"\n");
+        println!(rt; "{} {}", g.0, run.total_rests[k])?;
         k += 1;
     }
+    Ok(())
 }
 
-fn main() {
+fn main(rt: HostRuntime) -> io::Result<()> {
     let opened = recording::open_run(Head {
         trip: 120,
         temps: [-50, 0, 50, 100, 150, 200, 200, 200, 150, 100, 50, 0],
@@ -71,6 +69,6 @@ fn main() {
         run = filled(fresh);
         n += 1;
     }
-    print_run(run);
-    print_totals(run);
+    print_run(&rt, run)?;
+    print_totals(&rt, run)
 }

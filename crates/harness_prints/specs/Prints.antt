@@ -1,0 +1,19 @@
+-- What the test programs print of a line and of a float.
+-- Assumes nothing.
+use Rattle.std.specs.Prelude.{ℕ, ◌&&◌, nat_le, cond, List, [], ◌∷◌, ◌++◌, length, slice_range, pos}
+use Rattle.std.specs.Fmt.{decimal}
+use Rattle.std.specs.Float.{Float, binary64, minus_one, two_to, float_to_unsigned}
+use Rattle.std.specs.Int.{w64}
+use lib.Ieee.{lt, eq, of_int}
+
+-- the bytes from a place to another, none where they are no places of the line
+abbrev pub part : List ℕ → ℕ → ℕ → List ℕ
+part bytes from to = cond (nat_le from to && nat_le to (length bytes)) (slice_range bytes from to) []
+
+-- the whole part of a float from 0 on below 2^64, with a point behind it where that is not all
+abbrev pub whole_text : Float → ℕ → List ℕ
+whole_text x n = 32 ∷ (decimal n ++ cond (eq (of_int binary64 (pos n)) x) [] (46 ∷ []))
+
+-- a float as a whole number; a point alone for one that has no whole part in 64 bits
+abbrev pub float_text : Float → List ℕ
+float_text x = cond (lt minus_one x && lt x (two_to 64)) (whole_text x (float_to_unsigned w64 x)) (46 ∷ [])
