@@ -1,4 +1,0 @@
-pub mod Numbers
-pub mod Written
-pub mod Lent
-pub mod Twice
