@@ -1,6 +1,7 @@
 -- `run_sums::each_sum_ok` meets its contract. Assumes nothing.
 use Rattle.std.proofs.Common.{rules}
 use mathlib.Core.Path.{refl, sym, ◌∙◌}
+use Prim.Native.Nat.{◌-◌}
 use native.Mathlib.Omega.{arith}
 use Rattle.units.specs.Lists.{all_below}
 use Rattle.units.proofs.Tests.{more, fails, done}

@@ -1,5 +1,6 @@
 -- `run_sums::kinds_ok` meets its contract. Assumes nothing.
 use Rattle.std.proofs.Common.{rules}
+use Prim.Native.Nat.{◌-◌}
 use native.Mathlib.Omega.{arith}
 use Rattle.inventory.specs.Order.{grams_in}
 use Rattle.run_sums.proofs.Together.{within_none, within_more, mark_in, together}
