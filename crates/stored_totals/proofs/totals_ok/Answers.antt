@@ -1,6 +1,7 @@
 -- `stored_totals::totals_ok` meets its contract. Assumes nothing.
 use Rattle.std.proofs.Common.{rules}
 use mathlib.Core.Path.{refl, sym, ◌∙◌}
+use Prim.Native.Nat.{◌-◌}
 use native.Mathlib.Omega.{arith}
 use Rattle.units.specs.Lists.{all_below}
 use Rattle.units.proofs.Tab.{filled_none, filled_more, filled}
