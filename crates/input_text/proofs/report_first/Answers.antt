@@ -11,4 +11,4 @@ pub returns : goal.returns
 returns c =
     let a = c.args in
     let e = c.report_sheet-s-2.ensures in
-    rw (take_all a.read a.input.now c.if-read-input.false) (e.answer, e.bytes)
+    rw (take_all a.read a.input.now c.if-read-input.false) (record { answer = e.answer; bytes = e.bytes })

@@ -7,7 +7,8 @@ pub returns-in-Written : goal.returns-in-Written
 returns-in-Written c =
     let a = c.args in
     let e = c.report_first-r.ensures in
-    fits _ a.text.now _ _ (search rules) e.answer e.bytes _ c.in-Written.is
+    let w = fits _ a.text.now _ _ (search rules) e.answer e.bytes _ c.in-Written.is in
+    record { length = w.0; most = w.1.0; bytes = w.1.1 }
 
 pub returns-in-Refused : goal.returns-in-Refused
 returns-in-Refused c =
