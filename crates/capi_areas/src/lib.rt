@@ -1,4 +1,4 @@
-// The exports for C, Rust and Python over areas, which the caller lends: its struct of sixteen runs and the common use is 2,737
+// The calls for C, Rust and Python over areas, which the caller lends: its struct of sixteen runs and the common use is 2,737
 // numbers. Answers are a number and values.
 #![tactic(auto)]
 
@@ -11,8 +11,7 @@ use capi_answers::RunAnswer;
 use capi_heads::HeadNumbers;
 use inventory::Record;
 
-#[unsafe(no_mangle)]
-pub extern "C" fn haldurap_open_areas(numbers: &mut [u64], head: HeadNumbers) -> u64
+pub fn haldurap_open_areas(numbers: &mut [u64], head: HeadNumbers) -> u64
     ensures number { result ≡ open_areas_number numbers.old (head_from head) }
     ensures numbers { numbers.new ≡ open_areas_numbers numbers.old (head_from head) }
 {
@@ -21,8 +20,7 @@ pub extern "C" fn haldurap_open_areas(numbers: &mut [u64], head: HeadNumbers) ->
     opened
 }
 
-#[unsafe(no_mangle)]
-pub extern "C" fn haldurap_add_area(numbers: &mut [u64], area: u64, rec: Record) -> u64
+pub fn haldurap_add_area(numbers: &mut [u64], area: u64, rec: Record) -> u64
     ensures number { result ≡ add_area_number numbers.old area rec }
     ensures numbers { numbers.new ≡ add_area_numbers numbers.old area rec }
 {
@@ -31,8 +29,7 @@ pub extern "C" fn haldurap_add_area(numbers: &mut [u64], area: u64, rec: Record)
     added
 }
 
-#[unsafe(no_mangle)]
-pub extern "C" fn haldurap_area_run(numbers: &[u64], area: u64) -> RunAnswer
+pub fn haldurap_area_run(numbers: &[u64], area: u64) -> RunAnswer
     ensures { result ≡ run_answer (area_run_number numbers.now area) (area_run numbers.now area) }
 {
     let a = area_recording::area_run(numbers, area);

@@ -1,4 +1,4 @@
-// The export for C, Rust and Python that joins two runs. Structs by value, the answer as a number and a run.
+// The call for C, Rust and Python that joins two runs. Structs by value, the answer as a number and a run.
 #![tactic(auto)]
 
 ghost use Rattle.std.specs.Prelude.{◌≡◌};
@@ -8,8 +8,7 @@ ghost use Rattle.capi_answers.specs.Answers.{run_answer};
 use capi_answers::RunAnswer;
 use inventory::Run;
 
-#[unsafe(no_mangle)]
-pub extern "C" fn haldurap_join(first: Run, second: Run) -> RunAnswer
+pub fn haldurap_join(first: Run, second: Run) -> RunAnswer
     ensures { result ≡ run_answer (join_number first second) (join_run first second) }
 {
     let a = joining::join(first, second);

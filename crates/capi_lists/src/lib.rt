@@ -1,4 +1,4 @@
-// The exports for C, Rust and Python that make a run of a list or a sheet. Answers are a number and values.
+// The calls for C, Rust and Python that make a run of a list or a sheet. Answers are a number and values.
 #![tactic(auto)]
 
 ghost use Rattle.std.specs.Prelude.{◌≡◌};
@@ -29,8 +29,7 @@ pub struct SheetAnswer {
     pub run: Run,
 }
 
-#[unsafe(no_mangle)]
-pub extern "C" fn haldurap_add_list(head: HeadNumbers, numbers: &[u64]) -> ListAnswer
+pub fn haldurap_add_list(head: HeadNumbers, numbers: &[u64]) -> ListAnswer
     ensures { result ≡ list_answer (head_from head) numbers.now }
 {
     let a = add_list::add_list(capi_heads::head_from(head), numbers);
@@ -47,8 +46,7 @@ pub extern "C" fn haldurap_add_list(head: HeadNumbers, numbers: &[u64]) -> ListA
     }
 }
 
-#[unsafe(no_mangle)]
-pub extern "C" fn haldurap_sheet(text: &[u8]) -> SheetAnswer
+pub fn haldurap_sheet(text: &[u8]) -> SheetAnswer
     ensures { result ≡ sheet_answer (sheet_of text.now) }
 {
     let s = sheet::read_sheet(text);

@@ -1,4 +1,4 @@
-// The exports for C, Rust and Python that give the map's rows and figures. An answer is a number and values.
+// The calls for C, Rust and Python that give the map's rows and figures. An answer is a number and values.
 #![tactic(auto)]
 
 ghost use Rattle.std.specs.Prelude.{◌≡◌};
@@ -53,8 +53,7 @@ fn figure_parts(a: FigureAnswer) -> MapFigure
     }
 }
 
-#[unsafe(no_mangle)]
-pub extern "C" fn haldurap_map_row(run: Run, fuel: u64, quantity: u64) -> MapRow
+pub fn haldurap_map_row(run: Run, fuel: u64, quantity: u64) -> MapRow
     ensures { result ≡ map_row (row_of run fuel quantity) }
 {
     let a = map::row_of(run, fuel, quantity);
@@ -76,29 +75,25 @@ pub extern "C" fn haldurap_map_row(run: Run, fuel: u64, quantity: u64) -> MapRow
     }
 }
 
-#[unsafe(no_mangle)]
-pub extern "C" fn haldurap_figure_urban(run: Run, fuel: u64, quantity: u64) -> MapFigure
+pub fn haldurap_figure_urban(run: Run, fuel: u64, quantity: u64) -> MapFigure
     ensures { result ≡ map_figure (figure_of run fuel quantity Kind.Urban) }
 {
     figure_parts(map::figure_of(run, fuel, quantity, Kind::Urban))
 }
 
-#[unsafe(no_mangle)]
-pub extern "C" fn haldurap_figure_rural(run: Run, fuel: u64, quantity: u64) -> MapFigure
+pub fn haldurap_figure_rural(run: Run, fuel: u64, quantity: u64) -> MapFigure
     ensures { result ≡ map_figure (figure_of run fuel quantity Kind.Rural) }
 {
     figure_parts(map::figure_of(run, fuel, quantity, Kind::Rural))
 }
 
-#[unsafe(no_mangle)]
-pub extern "C" fn haldurap_figure_highway(run: Run, fuel: u64, quantity: u64) -> MapFigure
+pub fn haldurap_figure_highway(run: Run, fuel: u64, quantity: u64) -> MapFigure
     ensures { result ≡ map_figure (figure_of run fuel quantity Kind.Highway) }
 {
     figure_parts(map::figure_of(run, fuel, quantity, Kind::Highway))
 }
 
-#[unsafe(no_mangle)]
-pub extern "C" fn haldurap_figure_cold(run: Run, fuel: u64, quantity: u64) -> MapFigure
+pub fn haldurap_figure_cold(run: Run, fuel: u64, quantity: u64) -> MapFigure
     ensures { result ≡ map_figure (figure_of run fuel quantity Kind.Cold) }
 {
     figure_parts(map::figure_of(run, fuel, quantity, Kind::Cold))

@@ -1,4 +1,4 @@
-// The exports for C, Rust and Python that ask a run for grams. An answer is a number and values.
+// The calls for C, Rust and Python that ask a run for grams. An answer is a number and values.
 #![tactic(auto)]
 
 ghost use Rattle.std.specs.Prelude.{◌≡◌};
@@ -45,43 +45,37 @@ fn grams_of(p: Printed) -> GramsAnswer
     }
 }
 
-#[unsafe(no_mangle)]
-pub extern "C" fn haldurap_total(run: Run, fuel: u64, quantity: u64) -> GramsAnswer
+pub fn haldurap_total(run: Run, fuel: u64, quantity: u64) -> GramsAnswer
     ensures { result ≡ grams_answer (total_of run fuel quantity) }
 {
     grams_of(totals::total(run, fuel, quantity))
 }
 
-#[unsafe(no_mangle)]
-pub extern "C" fn haldurap_urban(run: Run, fuel: u64, quantity: u64) -> GramsAnswer
+pub fn haldurap_urban(run: Run, fuel: u64, quantity: u64) -> GramsAnswer
     ensures { result ≡ grams_answer (kind_of run fuel quantity Kind.Urban) }
 {
     grams_of(totals::kind_total(run, fuel, quantity, Kind::Urban))
 }
 
-#[unsafe(no_mangle)]
-pub extern "C" fn haldurap_rural(run: Run, fuel: u64, quantity: u64) -> GramsAnswer
+pub fn haldurap_rural(run: Run, fuel: u64, quantity: u64) -> GramsAnswer
     ensures { result ≡ grams_answer (kind_of run fuel quantity Kind.Rural) }
 {
     grams_of(totals::kind_total(run, fuel, quantity, Kind::Rural))
 }
 
-#[unsafe(no_mangle)]
-pub extern "C" fn haldurap_highway(run: Run, fuel: u64, quantity: u64) -> GramsAnswer
+pub fn haldurap_highway(run: Run, fuel: u64, quantity: u64) -> GramsAnswer
     ensures { result ≡ grams_answer (kind_of run fuel quantity Kind.Highway) }
 {
     grams_of(totals::kind_total(run, fuel, quantity, Kind::Highway))
 }
 
-#[unsafe(no_mangle)]
-pub extern "C" fn haldurap_cold(run: Run, fuel: u64, quantity: u64) -> GramsAnswer
+pub fn haldurap_cold(run: Run, fuel: u64, quantity: u64) -> GramsAnswer
     ensures { result ≡ grams_answer (kind_of run fuel quantity Kind.Cold) }
 {
     grams_of(totals::kind_total(run, fuel, quantity, Kind::Cold))
 }
 
-#[unsafe(no_mangle)]
-pub extern "C" fn haldurap_balance(run: Run, fuel: u64, quantity: u64, sold: u64) -> BalanceAnswer
+pub fn haldurap_balance(run: Run, fuel: u64, quantity: u64, sold: u64) -> BalanceAnswer
     ensures { result ≡ balance_answer (balance_of run fuel quantity sold) }
 {
     let a = balance::balance(run, fuel, quantity, sold);
@@ -104,22 +98,19 @@ pub extern "C" fn haldurap_balance(run: Run, fuel: u64, quantity: u64, sold: u64
     }
 }
 
-#[unsafe(no_mangle)]
-pub extern "C" fn haldurap_co2(run: Run, fuel: u64, hydrogen: u64) -> GramsAnswer
+pub fn haldurap_co2(run: Run, fuel: u64, hydrogen: u64) -> GramsAnswer
     ensures { result ≡ grams_answer (co2_of run fuel hydrogen) }
 {
     grams_of(fuel::co2(run, fuel, hydrogen))
 }
 
-#[unsafe(no_mangle)]
-pub extern "C" fn haldurap_so2(run: Run, fuel: u64, sulphur: u64) -> GramsAnswer
+pub fn haldurap_so2(run: Run, fuel: u64, sulphur: u64) -> GramsAnswer
     ensures { result ≡ grams_answer (so2_of run fuel sulphur) }
 {
     grams_of(fuel::so2(run, fuel, sulphur))
 }
 
-#[unsafe(no_mangle)]
-pub extern "C" fn haldurap_lead(run: Run, fuel: u64, content: u64) -> GramsAnswer
+pub fn haldurap_lead(run: Run, fuel: u64, content: u64) -> GramsAnswer
     ensures { result ≡ grams_answer (lead_of run fuel content) }
 {
     grams_of(fuel::lead(run, fuel, content))

@@ -1,4 +1,4 @@
-// The exports for C, Rust and Python over runs: opening, adding, order. Structs by value, answers as a number and values.
+// The calls for C, Rust and Python over runs: opening, adding, order. Structs by value, answers as a number and values.
 #![tactic(auto)]
 
 ghost use Rattle.std.specs.Prelude.{◌≡◌};
@@ -21,8 +21,7 @@ pub struct Layout {
     pub size: u64,
 }
 
-#[unsafe(no_mangle)]
-pub extern "C" fn haldurap_layout() -> Layout
+pub fn haldurap_layout() -> Layout
     ensures { result ≡ layout_of }
 {
     Layout {
@@ -31,8 +30,7 @@ pub extern "C" fn haldurap_layout() -> Layout
     }
 }
 
-#[unsafe(no_mangle)]
-pub extern "C" fn haldurap_open(head: HeadNumbers) -> RunAnswer
+pub fn haldurap_open(head: HeadNumbers) -> RunAnswer
     ensures { result ≡ run_answer (open_number (head_from head)) (open_run (head_from head)) }
 {
     let a = recording::open_run(capi_heads::head_from(head));
@@ -42,8 +40,7 @@ pub extern "C" fn haldurap_open(head: HeadNumbers) -> RunAnswer
     RunAnswer { number: n, run }
 }
 
-#[unsafe(no_mangle)]
-pub extern "C" fn haldurap_add(run: Run, rec: Record) -> RunAnswer
+pub fn haldurap_add(run: Run, rec: Record) -> RunAnswer
     ensures { result ≡ run_answer (add_number run rec) (add_run run rec) }
 {
     let a = recording::add(run, rec);
@@ -53,8 +50,7 @@ pub extern "C" fn haldurap_add(run: Run, rec: Record) -> RunAnswer
     RunAnswer { number, run: after }
 }
 
-#[unsafe(no_mangle)]
-pub extern "C" fn haldurap_in_order(run: Run) -> u64
+pub fn haldurap_in_order(run: Run) -> u64
     ensures { result ≡ order_answer (in_order run) }
 {
     if order::in_order(run) {

@@ -1,4 +1,4 @@
-// The exports for C, Rust and Python that write a report into a lent buffer. An answer is a number and values.
+// The calls for C, Rust and Python that write a report into a lent buffer. An answer is a number and values.
 #![tactic(auto)]
 
 ghost use Rattle.std.specs.Prelude.{◌≡◌};
@@ -42,16 +42,14 @@ fn length_of(r: Reported) -> LengthAnswer
     }
 }
 
-#[unsafe(no_mangle)]
-pub extern "C" fn haldurap_report(run: Run, buffer: &mut [u8]) -> LengthAnswer
+pub fn haldurap_report(run: Run, buffer: &mut [u8]) -> LengthAnswer
     ensures answer { result ≡ length_answer (report_of run buffer.old) }
     ensures bytes { buffer.new ≡ report_buffer run buffer.old }
 {
     length_of(listing::write_report(run, buffer))
 }
 
-#[unsafe(no_mangle)]
-pub extern "C" fn haldurap_report_sheet(text: &[u8], buffer: &mut [u8]) -> TextAnswer
+pub fn haldurap_report_sheet(text: &[u8], buffer: &mut [u8]) -> TextAnswer
     ensures answer { result ≡ text_answer text.now buffer.old }
     ensures bytes { buffer.new ≡ text_buffer text.now buffer.old }
 {

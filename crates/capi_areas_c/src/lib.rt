@@ -1,0 +1,34 @@
+// The exports of capi_areas for C, Rust and Python: each is that crate's call under the name of the header.
+#![tactic(auto)]
+
+ghost use Rattle.std.specs.Prelude.{◌≡◌};
+ghost use Rattle.areas.specs.Calls.{open_areas_number, open_areas_numbers, add_area_number, add_area_numbers, area_run_number, area_run};
+ghost use Rattle.capi_heads.specs.Heads.{head_from};
+ghost use Rattle.capi_answers.specs.Answers.{run_answer};
+
+use capi_answers::RunAnswer;
+use capi_heads::HeadNumbers;
+use inventory::Record;
+
+#[unsafe(no_mangle)]
+pub extern "C" fn haldurap_open_areas(numbers: &mut [u64], head: HeadNumbers) -> u64
+    ensures number { result ≡ open_areas_number numbers.old (head_from head) }
+    ensures numbers { numbers.new ≡ open_areas_numbers numbers.old (head_from head) }
+{
+    capi_areas::haldurap_open_areas(numbers, head)
+}
+
+#[unsafe(no_mangle)]
+pub extern "C" fn haldurap_add_area(numbers: &mut [u64], area: u64, rec: Record) -> u64
+    ensures number { result ≡ add_area_number numbers.old area rec }
+    ensures numbers { numbers.new ≡ add_area_numbers numbers.old area rec }
+{
+    capi_areas::haldurap_add_area(numbers, area, rec)
+}
+
+#[unsafe(no_mangle)]
+pub extern "C" fn haldurap_area_run(numbers: &[u64], area: u64) -> RunAnswer
+    ensures { result ≡ run_answer (area_run_number numbers.now area) (area_run numbers.now area) }
+{
+    capi_areas::haldurap_area_run(numbers, area)
+}
