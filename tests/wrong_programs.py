@@ -4,8 +4,9 @@
 
 A text buffer of 388 bytes, an input of 65,536 or of 4,096 bytes: `rt check` must refuse to compile it, since the call
 of the library takes these sizes alone. A program that does not print a text of 17 bytes: the proof must refuse it, by what
-`write_text` promises. What `rt check` kept of the libraries (tools/program.sh report) makes this quick. Exits 1 where one
-is not caught.
+`write_text` promises. A program that does not say that reading failed: no contract speaks of standard error, so it is proved
+and built, and tests/report.py must catch it. What `rt check` kept of the libraries (tools/program.sh report) makes this
+quick. Exits 1 where one is not caught.
 """
 import os
 import re
@@ -18,6 +19,9 @@ WRONG = os.path.join(ROOT, "target", "wrong")
 TEXT, INPUT = r"\b1_?455\b", r"\b65_?537\b"
 # where the writing of the text begins; a report has a multiple of 97 bytes, the line of a refusal 17
 BEGIN = r"(fn write_text<W: Write>\(writer: &mut W, text: &\[u8\]\) -> io::Result<\(\)>\n(?:    ensures .*\n)*\{\n    let mut n: usize = )0;"
+
+# where a failed read is told
+TELL = r"Err\(Trouble::Reading\(e\)\) => tell\(&rt, \"reading standard input\", e\),"
 
 failed = 0
 
@@ -75,11 +79,26 @@ def is_refused(name, pattern, replacement, function):
     say(name, caught, "it is not proved: %s" % (refused and refused.group()[:200]), output)
 
 
+def is_seen_by_the_test(name, pattern, replacement, part):
+    """It is proved, and tests/report.py tells it by what it prints."""
+    folder, status, output = changed(name, pattern, replacement)
+    crate = os.path.join(folder, "crates", "report")
+    program = os.path.join(crate, "out", "report")
+    if status == 0:
+        subprocess.run(["rt", "run"], cwd=crate, stdin=subprocess.DEVNULL, stdout=subprocess.DEVNULL, stderr=subprocess.DEVNULL)
+    if status != 0 or not os.path.exists(program):
+        sys.exit("%s: the wrong program was to be built, and was not\n%s" % (name, output))
+    ended = subprocess.run([sys.executable, os.path.join(ROOT, "tests", "report.py"), program, part], stdout=subprocess.PIPE, text=True)
+    caught = ended.returncode == 1 and re.search(r"^\d+ passed, [1-9]\d* failed$", ended.stdout, re.M)
+    say(name, caught, "tests/report.py: %s" % ended.stdout.splitlines()[-1], ended.stdout)
+
+
 def main():
     does_not_compile("text_of_388_bytes", TEXT, "388")
     does_not_compile("input_of_65536_bytes", INPUT, "65536")
     does_not_compile("input_of_4096_bytes", INPUT, "4096")
     is_refused("refusal_not_printed", BEGIN, r"\1text.len() % 97;", "write_text")
+    is_seen_by_the_test("failed_read_not_told", TELL, "Err(Trouble::Reading(_)) => Ok(()),", "failed_reads")
     sys.exit(1 if failed else 0)
 
 
