@@ -27,7 +27,8 @@ failed = 0
 
 
 def scratch(name):
-    """A copy of the repository's crates; what a check kept of them is taken from ours, so only report is proved again."""
+    """A copy of the repository's crates with what a check kept of them (a gigabyte, so each goes when it was tried); only
+    report is proved again."""
     folder = os.path.join(WRONG, name)
     shutil.rmtree(folder, ignore_errors=True)
     os.makedirs(folder)
@@ -69,6 +70,7 @@ def does_not_compile(name, pattern, replacement):
     proved = re.search(r"^fn report::.*: proved", output, re.M)
     caught = status != 0 and error is not None and not proved
     say(name, caught, "it does not compile: %s" % (error and error.group()[:200]), output)
+    shutil.rmtree(folder)
 
 
 def is_refused(name, pattern, replacement, function):
@@ -77,6 +79,7 @@ def is_refused(name, pattern, replacement, function):
     refused = re.search(r"^fn report::%s: (?:not proved|no proof).*" % function, output, re.M)
     caught = status == 1 and refused is not None and "error[" not in output and re.search(r"^logic=not-proved", output, re.M)
     say(name, caught, "it is not proved: %s" % (refused and refused.group()[:200]), output)
+    shutil.rmtree(folder)
 
 
 def is_seen_by_the_test(name, pattern, replacement, part):
@@ -91,6 +94,7 @@ def is_seen_by_the_test(name, pattern, replacement, part):
     ended = subprocess.run([sys.executable, os.path.join(ROOT, "tests", "report.py"), program, part], stdout=subprocess.PIPE, text=True)
     caught = ended.returncode == 1 and re.search(r"^\d+ passed, [1-9]\d* failed$", ended.stdout, re.M)
     say(name, caught, "tests/report.py: %s" % ended.stdout.splitlines()[-1], ended.stdout)
+    shutil.rmtree(folder)
 
 
 def main():
