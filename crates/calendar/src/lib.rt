@@ -4,12 +4,12 @@
 ghost use Rattle.std.specs.Prelude.{◌≡◌, ◌-◌, ◌≤◌, ◌<◌};
 ghost use Rattle.units.specs.Lists.{tab};
 ghost use Rattle.units.specs.Grounds.{first_fit};
-ghost use Rattle.units.specs.Refusals.{verdict_number};
+ghost use Rattle.units.specs.Refusals.{answer_number};
 ghost use Rattle.calendar.specs.Calendar.{is_leap, month_length, no_day};
 ghost use Rattle.calendar.specs.Periods.{period_from, period_grounds, TakenPeriod, days_number, TakenDays, days_in, days_of, month_weight, period_weight, least};
 ghost use Rattle.calendar.specs.Claim.{CalendarClaim};
 
-use units::{Refusal, Verdict};
+use units::Refusal;
 
 // A first and a last day, both included, each as year × 10,000 + month × 100 + day.
 #[derive(Clone, Copy)]
@@ -89,52 +89,32 @@ fn no_day(date: u64) -> bool
 }
 
 // Whether a first and a last day are refused: 19, then 20.
-fn days_verdict(d: Days) -> Verdict
-    ensures { verdict_number result ≡ days_number d }
+fn days_verdict(d: Days) -> Result<(), Refusal>
+    ensures { answer_number result ≡ days_number d }
 {
     if no_day(d.first) {
-        return Verdict::Refused(Refusal::NoDay);
+        return Err(Refusal::NoDay);
     }
     if no_day(d.last) {
-        return Verdict::Refused(Refusal::NoDay);
+        return Err(Refusal::NoDay);
     }
     if d.last < d.first {
-        return Verdict::Refused(Refusal::DayOrder);
+        return Err(Refusal::DayOrder);
     }
     if d.first / 10000 != d.last / 10000 {
-        return Verdict::Refused(Refusal::DayOrder);
+        return Err(Refusal::DayOrder);
     }
-    Verdict::Taken
+    Ok(())
 }
 
 // Whether a period is refused: 19, then 20.
-pub fn period_verdict(period: Period) -> Verdict
-    ensures { verdict_number result ≡ first_fit (period_grounds period) }
+pub fn period_verdict(period: Period) -> Result<(), Refusal>
+    ensures { answer_number result ≡ first_fit (period_grounds period) }
 {
     match period {
-        Period::Year => Verdict::Taken,
+        Period::Year => Ok(()),
         Period::Days(d) => days_verdict(d),
     }
-}
-
-// x less y, or 0 if that is negative.
-fn saturating_sub(x: u64, y: u64) -> u64
-    ensures { result ≡ x - y }
-{
-    if x < y {
-        return 0;
-    }
-    x - y
-}
-
-// The lesser of two numbers.
-fn least_of(x: u64, y: u64) -> u64
-    ensures { result ≡ least x y }
-{
-    if x < y {
-        return x;
-    }
-    y
 }
 
 // The days of a period in month k, 0 January to 11 December.
@@ -147,8 +127,8 @@ fn days_in(d: Days, k: usize) -> u64
     let length = month_length(year, month);
     // What is written before the first day of the month.
     let before = year * 10000 + month * 100;
-    let reached = least_of(length, saturating_sub(d.last, before));
-    saturating_sub(reached, saturating_sub(d.first, before + 1))
+    let reached = length.min(d.last.saturating_sub(before));
+    reached.saturating_sub(d.first.saturating_sub(before + 1))
 }
 
 // What each month weighs in a taken period: its days in it.

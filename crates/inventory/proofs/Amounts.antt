@@ -2,10 +2,9 @@
 use mathlib.Core.Path.{◌≡◌}
 use Prim.Native.Nat.{ℕ, ◌+◌, ◌*◌, ◌<◌}
 use native.Mathlib.Omega.{arith}
-use lib.ListN.{get_or}
 use Rattle.units.specs.declared.Grams.{Grams}
 use Rattle.inventory.specs.declared.Run.{Run}
-use Rattle.inventory.specs.Order.{rest_in, total_rest_in}
+use Rattle.inventory.specs.Amounts.{sum_amount, total_amount}
 use Rattle.inventory.specs.Limits.{AmountLimits, RunLimits, TotalLimits}
 use Rattle.inventory.specs.Adding.{billionths}
 
@@ -30,9 +29,9 @@ module _ (n : ℕ) (g : Grams) (r : ℕ) (e : g.0 * 1000000000 + r ≡ n) (h : r
   unfolding billionths
   amount_rest = omega arith
 
--- a sum and a total of a run in order: any grams beside any rest
-pub sum_amount : (run : Run) → RunLimits run → (i j : ℕ) → i < 60 → j < 60 → AmountLimits (get_or run.grams i (record { 0 = 0 })) (rest_in run j)
-sum_amount run lim i j h l = record { grams = omega (arith, lim.grams_most i h); rest = lim.rest_below j l }
+-- a sum and a total of a run in order
+pub sum_limits : (run : Run) → RunLimits run → (j : ℕ) → j < 60 → AmountLimits (sum_amount run j)
+sum_limits run lim j h = record { grams = omega (arith, lim.grams_most j h); rest = lim.rest_below j h }
 
-pub total_amount : (run : Run) → TotalLimits run → (i k : ℕ) → i < 15 → k < 15 → AmountLimits (get_or run.total_grams i (record { 0 = 0 })) (total_rest_in run k)
-total_amount run lim i k h l = record { grams = lim.grams_most i h; rest = lim.rest_below k l }
+pub total_limits : (run : Run) → TotalLimits run → (k : ℕ) → k < 15 → AmountLimits (total_amount run k)
+total_limits run lim k h = record { grams = lim.grams_most k h; rest = lim.rest_below k h }

@@ -4,10 +4,8 @@ use mathlib.Core.Bool.{true, false}
 use Prim.Native.Nat.{ℕ, ◌+◌, ◌*◌, ◌/◌, ◌%◌, ◌≤◌, ◌<◌}
 use native.Mathlib.Omega.{arith}
 use Rattle.units.specs.declared.Refusal.{Refusal}
-use Rattle.units.specs.declared.Verdict.{Verdict}
-use Rattle.units.specs.declared.Verdict.TheVariants.{Taken, Refused}
 use Rattle.units.specs.declared.Grams.{Grams}
-use Rattle.units.specs.Refusals.{verdict_number}
+use Rattle.units.specs.Refusals.{answer_number}
 use Rattle.units.proofs.Refusals.{number_positive, taken_number, refused_number}
 use Rattle.units.proofs.Grounds.{passed}
 use Rattle.units.proofs.Tests.{inside_low, inside_high}
@@ -21,7 +19,7 @@ use Rattle.inventory.proofs.Order.{sum_at_most, exact_most}
 use Rattle.inventory.specs.Printed.{kind_place, printed_kind, printed_total, total_grounds, answered, printed_answer}
 use Rattle.inventory.specs.declared.Kind.{Kind}
 use Rattle.inventory.specs.declared.Kind.TheVariants as kinds
-use Rattle.inventory.specs.declared.Printed.TheVariants as printed
+use Rattle.std.specs.Prelude.{Result, Ok, Err}
 
 -- whole grams come out of half up
 pub half_grams : (g r : ℕ) → g + (r + 500000000) / 1000000000 ≡ half_up (g * 1000000000 + r) 1000000000
@@ -100,12 +98,13 @@ asked_of run fuel quantity z =
       quantity_high = inside_high 1 5 quantity p.1.1.0;
     }
 
--- ---- the answer by the verdict on its question
+-- ---- the answer by the answer on its question
 
-pub answer_refused : (v : Verdict) (r : Refusal) (n g : ℕ) → v ≡ Refused r → verdict_number v ≡ n → printed_answer (printed.Refused r) ≡ answered n g
-unfolding printed_answer answered
-answer_refused v r n g e h = rw (refused_number v r n e h, number_positive r)
+module _ {A : Type 0} (v : Result A Refusal) where
+  pub answer_refused : (r : Refusal) (n g : ℕ) → v ≡ Err r → answer_number v ≡ n → printed_answer (Err r) ≡ answered n g
+  unfolding printed_answer answered
+  answer_refused r n g e h = rw (refused_number v r n e h, number_positive r)
 
-pub answer_given : (v : Verdict) (n : ℕ) (g : Grams) (m : ℕ) → v ≡ Taken → verdict_number v ≡ n → g.0 ≡ m → printed_answer (printed.Given g) ≡ answered n m
-unfolding printed_answer answered
-answer_given v n g m e h k = rw (taken_number v n e h, k)
+  pub answer_given : (x : A) (n : ℕ) (g : Grams) (m : ℕ) → v ≡ Ok x → answer_number v ≡ n → g.0 ≡ m → printed_answer (Ok g) ≡ answered n m
+  unfolding printed_answer answered
+  answer_given x n g m e h k = rw (taken_number v x n e h, k)

@@ -4,3 +4,4 @@ pub mod Adding
 pub mod Opening
 pub mod Printed
 pub mod Limits
+pub mod Amounts

@@ -2,10 +2,10 @@
 -- and the lengths of a run's arrays.
 -- Assumes nothing.
 use Rattle.std.specs.Prelude.{ℕ, ◌/◌, ◌%◌, ◌≤◌, ◌<◌, ◌≡◌, List, length, get_or}
-use Rattle.units.specs.declared.Grams.{Grams}
 use Rattle.classes.specs.Classes.{x_count}
 use Rattle.factors.specs.Factors.{Driven}
 use Rattle.coldstart.specs.ColdStart.{x_most}
+use Rattle.inventory.specs.declared.Amount.{Amount}
 use Rattle.inventory.specs.declared.Record.{Record}
 use Rattle.inventory.specs.declared.Run.{Run}
 use Rattle.inventory.specs.Records.{vehicle_km, share_of, speed_of}
@@ -22,9 +22,9 @@ abbrev pub XLimits : List ℕ → Type 0
 XLimits xs = (i : ℕ) → i < x_count → get_or xs i 0 ≤ x_most
 
 -- a sum or a total of a run in order: whole grams and a rest
-pub record AmountLimits (g : Grams) (r : ℕ) : Type 0 where
-  pub grams : g.0 ≤ 20000000000000000
-  pub rest : r < 1000000000
+pub record AmountLimits (a : Amount) : Type 0 where
+  pub grams : a.grams.0 ≤ 20000000000000000
+  pub rest : a.rest < 1000000000
 
 -- a run in order, but for its totals
 pub record RunLimits (run : Run) : Type 0 where

@@ -1,6 +1,7 @@
 -- Opening a run (SPECIFICATION, "The run").
 -- Assumes nothing.
-use Rattle.std.specs.Prelude.{ℕ, cond, eqb, List}
+use Rattle.std.specs.Prelude.{ℕ, cond, eqb, List, Result, Ok, Err}
+use Rattle.units.specs.declared.Refusal.{Refusal}
 use Rattle.units.specs.declared.Grams.{Grams}
 use Rattle.units.specs.declared.VehicleKm.{VehicleKm}
 use Rattle.units.specs.Lists.{tab}
@@ -49,3 +50,8 @@ open_number head = first_fit (head_grounds head)
 -- the run that opening gives
 unfoldable pub open_run : Head → Run
 open_run head = cond (eqb (open_number head) 0) (fresh_run head) zero_run
+
+-- the run of an answer: that of zeros where it is refused
+unfoldable pub given_run : Result Run Refusal → Run
+given_run (Ok run) = run
+given_run (Err r) = zero_run

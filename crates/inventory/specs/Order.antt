@@ -1,16 +1,16 @@
 -- The run, and when it is in order (SPECIFICATION, "The run").
 -- Assumes nothing.
 use Rattle.std.specs.Prelude.{ℕ, ◌+◌, ◌*◌, ◌/◌, ◌%◌, Bool, not, ◌&&◌, leb, ltb, eqb, get_or}
-use Rattle.units.specs.declared.Grams.{Grams}
 use Rattle.units.specs.Lists.{all_below}
 use Rattle.units.specs.Grounds.{outside}
 use Rattle.classes.specs.Classes.{x_count}
 use Rattle.coldstart.specs.ColdStart.{x_most}
+use Rattle.inventory.specs.declared.Amount.{Amount}
 use Rattle.inventory.specs.declared.Run.{Run}
 
--- grams and a rest, in billionths of a gram
-abbrev pub in_billionths : Grams → ℕ → ℕ
-in_billionths g r = g.0 * 1000000000 + r
+-- an amount in billionths of a gram
+abbrev pub in_billionths : Amount → ℕ
+in_billionths a = a.grams.0 * 1000000000 + a.rest
 
 -- the whole grams of the sum j = fuel × 20 + quantity × 4 + kind
 abbrev pub grams_in : Run → ℕ → ℕ

@@ -1,14 +1,14 @@
 -- Printed kinds and totals (SPECIFICATION, "The run").
 -- Assumes nothing.
-use Rattle.std.specs.Prelude.{ℕ, ◌-◌, not, cond, List, [], ◌∷◌, eqb}
+use Rattle.std.specs.Prelude.{ℕ, ◌-◌, not, cond, List, [], ◌∷◌, eqb, Result, Ok, Err}
 use Rattle.units.specs.Grounds.{Ground, ground, first_fit, outside}
 use Rattle.units.specs.Rounding.{half_up}
 use Rattle.units.specs.Refusals.{refusal_number}
+use Rattle.units.specs.declared.Grams.{Grams}
+use Rattle.units.specs.declared.Refusal.{Refusal}
 use Rattle.inventory.specs.declared.Run.{Run}
 use Rattle.inventory.specs.declared.Kind.{Kind}
 use Rattle.inventory.specs.declared.Kind.TheVariants.{Urban, Rural, Highway, Cold}
-use Rattle.inventory.specs.declared.Printed.{Printed}
-use Rattle.inventory.specs.declared.Printed.TheVariants.{Given, Refused}
 use Rattle.inventory.specs.Order.{in_order, sum_at, place, exact_total}
 
 -- the place of a kind among the four
@@ -40,9 +40,9 @@ unfoldable pub answered : ℕ → ℕ → Answer
 answered number grams = record { number = number; grams = cond (eqb number 0) grams 0 }
 
 -- the number and the grams of each case of a printed kind or total
-unfoldable pub printed_answer : Printed → Answer
-printed_answer (Given g) = record { number = 0; grams = g.0 }
-printed_answer (Refused r) = record { number = refusal_number r; grams = 0 }
+unfoldable pub printed_answer : Result Grams Refusal → Answer
+printed_answer (Ok g) = record { number = 0; grams = g.0 }
+printed_answer (Err r) = record { number = refusal_number r; grams = 0 }
 
 -- the answer to a question for a total, and for one kind
 unfoldable pub total_of : Run → ℕ → ℕ → Answer

@@ -1,8 +1,12 @@
 // Heads, records and runs. Their meaning stands in specs/, what is used of it in proofs/; the code is in the crates above.
 #![tactic(auto)]
 
+ghost use Rattle.std.specs.Prelude.{◌≡◌, ◌<◌};
+ghost use Rattle.inventory.specs.Limits.{Shaped};
+ghost use Rattle.inventory.specs.Amounts.{sum_amount, total_amount, with_sum, with_total};
+
 use calendar::Period;
-use units::{Grams, Refusal, Speed, VehicleKm, Verdict};
+use units::{Grams, Speeds, VehicleKm};
 
 // A head: the mean trip length in tenths of km, twelve monthly mean temperatures in tenths of a degree Celsius, and what it
 // covers: the whole year, or the days from one date to another.
@@ -22,15 +26,6 @@ pub struct Shares {
     pub highway: u64,
 }
 
-// The speed on each road.
-#[repr(C)]
-#[derive(Clone, Copy)]
-pub struct Speeds {
-    pub urban: Speed,
-    pub rural: Speed,
-    pub highway: Speed,
-}
-
 // A record: class, number of vehicles, km per vehicle, shares and speeds.
 #[repr(C)]
 #[derive(Clone, Copy)]
@@ -40,6 +35,14 @@ pub struct Record {
     pub km: u64,
     pub shares: Shares,
     pub speeds: Speeds,
+}
+
+// Whole grams, and a rest in billionths of a gram.
+#[repr(C)]
+#[derive(Clone, Copy)]
+pub struct Amount {
+    pub grams: Grams,
+    pub rest: u64,
 }
 
 // A run: the head's trip length and values X (fuel × 5 + quantity, then CO of class 3), the record count, the kilometres
@@ -58,12 +61,58 @@ pub struct Run {
     pub total_rests: [u64; 15],
 }
 
-// Whole grams, and a rest in billionths of a gram.
-#[repr(C)]
-#[derive(Clone, Copy)]
-pub struct Amount {
-    pub grams: Grams,
-    pub rest: u64,
+impl Run {
+    // The sum at a place.
+    pub fn sum(&self, j: usize) -> Amount
+        requires { j < 60 }
+        ensures { result ≡ sum_amount self.now j }
+    {
+        Amount {
+            grams: self.grams[j],
+            rest: self.rests[j],
+        }
+    }
+
+    // The stored total at a place.
+    pub fn total(&self, k: usize) -> Amount
+        requires { k < 15 }
+        ensures { result ≡ total_amount self.now k }
+    {
+        Amount {
+            grams: self.total_grams[k],
+            rest: self.total_rests[k],
+        }
+    }
+
+    // Stores a sum at a place.
+    pub fn set_sum(&mut self, j: usize, to: Amount)
+        requires { j < 60 }
+        ensures { self.new ≡ with_sum self.old j to }
+    {
+        self.grams[j] = to.grams;
+        self.rests[j] = to.rest;
+    }
+
+    // Stores a total at a place.
+    pub fn set_total(&mut self, k: usize, to: Amount)
+        requires { k < 15 }
+        ensures { self.new ≡ with_total self.old k to }
+    {
+        self.total_grams[k] = to.grams;
+        self.total_rests[k] = to.rest;
+    }
+
+    // Does nothing: its contract is that the arrays of every run have their lengths.
+    pub fn shaped(&self)
+        ensures { Shaped self.now }
+    {
+        let _x = self.x;
+        let _km = self.km;
+        let _grams = self.grams;
+        let _rests = self.rests;
+        let _total_grams = self.total_grams;
+        let _total_rests = self.total_rests;
+    }
 }
 
 // The four kinds of a sum.
@@ -73,25 +122,4 @@ pub enum Kind {
     Rural,
     Highway,
     Cold,
-}
-
-// What opening gives: the fresh run, or the refusal and the run of zeros.
-#[derive(Clone, Copy)]
-pub struct Opened {
-    pub run: Run,
-    pub verdict: Verdict,
-}
-
-// What adding gives: the run with the record in it, or the refusal and the run as it came.
-#[derive(Clone, Copy)]
-pub struct Added {
-    pub run: Run,
-    pub verdict: Verdict,
-}
-
-// The answer to a question for grams.
-#[derive(Clone, Copy)]
-pub enum Printed {
-    Given(Grams),
-    Refused(Refusal),
 }

@@ -6,5 +6,5 @@ use Rattle.calendar.proofs.days_in.Goals as goal
 pub returns : goal.returns
 returns c =
     let a = c.args in
-    c.saturating_sub-3.ensures ∙ rw (c.saturating_sub-2.ensures, c.least_of-reached.ensures, c.saturating_sub.ensures, c.month_length-length.ensures)
+    c.saturating_sub-3.ensures ∙ rw (c.saturating_sub-2.ensures, c.min-reached.ensures, c.saturating_sub.ensures, c.month_length-length.ensures)
     (sym (days_in_lem a.d a.k))
