@@ -110,6 +110,10 @@ run_with run rec = with_totals (raised run rec)
 abbrev pub ordered_grounds : ℕ → Record → List Ground
 ordered_grounds count rec = record_grounds rec ++ (ground 9 (leb record_limit count) ∷ [])
 
+-- the run that takes a record where none of them fits, its totals still those of before; else as it came
+unfoldable pub raised_run : Run → Record → Run
+raised_run run rec = cond (eqb (first_fit (ordered_grounds run.count rec)) 0) (raised run rec) run
+
 -- the grounds of adding, in their order: 16, then 3 to 9
 unfoldable pub add_grounds : Run → Record → List Ground
 add_grounds run rec = ground 16 (not (in_order run)) ∷ ordered_grounds run.count rec
