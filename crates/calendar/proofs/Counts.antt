@@ -2,22 +2,16 @@
 use mathlib.Core.Path.{◌≡◌, ap, ◌∙◌}
 use mathlib.Core.Bool.{cond, ◌&&◌}
 use mathlib.Core.Logic.{⊎_elim}
-use Prim.Native.Nat.{ℕ, zero, suc, ◌+◌, ◌*◌, ◌-◌, ◌≤◌, ◌<◌}
+use Prim.Native.Nat.{ℕ, zero, suc, ◌+◌, ◌*◌, ◌-◌, ◌≤◌, ◌<◌, min}
 use native.Mathlib.Omega.{arith}
 use lib.Dec.{leb}
-use borrow.Author.Tests.{le-leb, lt-leb, lt-ltb, le-ltb}
+use borrow.Author.Tests.{le-leb, lt-leb}
 use Rattle.units.specs.Lists.{sum_to}
 use Rattle.units.proofs.Sums.{le_or_lt, sum_alike}
 use Rattle.units.proofs.Tests.{and_false}
 use Rattle.calendar.specs.declared.Days.{Days}
 use Rattle.calendar.specs.Calendar.{month_length, year_of}
-use Rattle.calendar.specs.Periods.{days_in, least}
-
-pub least_left : (x y : ℕ) → x ≤ y → least x y ≡ x
-least_left x y h = ⊎_elim (λ (a : y ≤ x). rw (le-ltb x y a) (omega arith)) (λ (b : x < y). rw (lt-ltb x y b)) (le_or_lt y x)
-
-pub least_right : (x y : ℕ) → y ≤ x → least x y ≡ y
-least_right x y h = rw (le-ltb x y h)
+use Rattle.calendar.specs.Periods.{days_in}
 
 -- 1 for a number from lo to hi
 abbrev between : ℕ → ℕ → ℕ → ℕ
@@ -25,35 +19,17 @@ between lo hi x = cond (leb lo x && leb x hi) 1 0
 
 -- of before + 1 to before + n those from lo to hi: as many as hi reaches, less those below lo
 abbrev closed : ℕ → ℕ → ℕ → ℕ → ℕ
-closed lo hi before n = least n (hi - before) - (lo - (before + 1))
+closed lo hi before n = min n (hi - before) - (lo - (before + 1))
 
 module _ (lo hi before n : ℕ) where
   one_below : before + (n + 1) < lo → closed lo hi before n + between lo hi (before + (n + 1)) ≡ closed lo hi before (suc n)
-  one_below h =
-      ⊎_elim
-      (λ (a : hi - before ≤ n). rw (lt-leb lo (before + (n + 1)) h, least_right n (hi - before) a, least_right (suc n) (hi - before) (omega arith)) (omega arith))
-      (λ (b : n < hi - before). rw (lt-leb lo (before + (n + 1)) h, least_left n (hi - before) (omega arith), least_left (suc n) (hi - before) (omega arith)) (omega arith))
-      (le_or_lt (hi - before) n)
+  one_below h = rw (lt-leb lo (before + (n + 1)) h) (omega arith)
 
   one_above : hi < before + (n + 1) → closed lo hi before n + between lo hi (before + (n + 1)) ≡ closed lo hi before (suc n)
-  one_above h =
-      rw (
-        lt-leb (before + (n + 1)) hi h,
-        and_false (leb lo (before + (n + 1))),
-        least_right n (hi - before) (omega arith),
-        least_right (suc n) (hi - before) (omega arith),
-      )
-      (omega arith)
+  one_above h = rw (lt-leb (before + (n + 1)) hi h, and_false (leb lo (before + (n + 1)))) (omega arith)
 
   one_inside : lo ≤ before + (n + 1) → before + (n + 1) ≤ hi → closed lo hi before n + between lo hi (before + (n + 1)) ≡ closed lo hi before (suc n)
-  one_inside l h =
-      rw (
-        le-leb lo (before + (n + 1)) l,
-        le-leb (before + (n + 1)) hi h,
-        least_left n (hi - before) (omega arith),
-        least_left (suc n) (hi - before) (omega arith),
-      )
-      (omega arith)
+  one_inside l h = rw (le-leb lo (before + (n + 1)) l, le-leb (before + (n + 1)) hi h) (omega arith)
 
   one_more : closed lo hi before n + between lo hi (before + (n + 1)) ≡ closed lo hi before (suc n)
   one_more =
@@ -62,7 +38,7 @@ module _ (lo hi before n : ℕ) where
 
 counted : (lo hi before n : ℕ) → sum_to (λ i. between lo hi (before + (i + 1))) n ≡ closed lo hi before n
 unfolding sum_to
-counted lo hi before zero = rw (least_left 0 (hi - before) (omega arith)) (omega arith)
+counted lo hi before zero = omega arith
 counted lo hi before (suc n) = rw (counted lo hi before n) (one_more lo hi before n)
 
 -- what is written before the first day of month k in the year of the period
@@ -72,7 +48,7 @@ before_month d k = year_of d.first * 10000 + (k + 1) * 100
 abbrev pub length_in : Days → ℕ → ℕ
 length_in d k = month_length (year_of d.first) (k + 1)
 
-pub days_in_lem : (d : Days) (k : ℕ) → days_in d k ≡ least (length_in d k) (d.last - before_month d k) - (d.first - (before_month d k + 1))
+pub days_in_lem : (d : Days) (k : ℕ) → days_in d k ≡ min (length_in d k) (d.last - before_month d k) - (d.first - (before_month d k + 1))
 unfolding days_in
 days_in_lem d k =
     sum_alike _ _ (length_in d k) (λ i h. ap (between d.first d.last) (omega arith)) ∙ counted d.first d.last (before_month d k) (length_in d k)

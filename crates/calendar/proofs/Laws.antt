@@ -2,7 +2,7 @@
 use mathlib.Core.Path.{◌≡◌, refl, sym, ap, ◌∙◌}
 use mathlib.Core.Bool.{Bool, true, false, not, cond}
 use mathlib.Core.Logic.{⊎_elim}
-use Prim.Native.Nat.{ℕ, zero, suc, ◌+◌, ◌*◌, ◌-◌, ◌≤◌, ◌<◌}
+use Prim.Native.Nat.{ℕ, zero, suc, ◌+◌, ◌*◌, ◌-◌, ◌≤◌, ◌<◌, min}
 use native.Mathlib.Omega.{arith}
 use lib.Dec.{eqb, ltb}
 use borrow.Author.Tests.{eqb-true, eq-eqb, ne_eqb, ltb-false, le-ltb, not-false}
@@ -13,10 +13,10 @@ use Rattle.units.proofs.Sums.{le_or_lt, sum_alike, fewer_terms}
 use Rattle.units.proofs.Tests.{or_false_left, or_false_right}
 use Rattle.calendar.specs.declared.Days.{Days}
 use Rattle.calendar.specs.Calendar.{is_leap, month_length, written, year_of, month_of, day_of, no_day, day_number}
-use Rattle.calendar.specs.Periods.{period_grounds, TakenDays, days_in, days_of, least}
+use Rattle.calendar.specs.Periods.{period_grounds, TakenDays, days_in, days_of}
 use Rattle.calendar.specs.Claim.{full_year, one_day}
 use Rattle.calendar.proofs.Months.{length_range, december, year_length, Date, is_date, date_is}
-use Rattle.calendar.proofs.Counts.{least_left, least_right, before_month, length_in, days_in_lem}
+use Rattle.calendar.proofs.Counts.{before_month, length_in, days_in_lem}
 
 -- ---- what a taken period has
 
@@ -60,42 +60,42 @@ module _ (len : ℕ → ℕ) (range : (k : ℕ) → k < 12 → (28 ≤ len k) ×
   last = y * 10000 + (b + 1) * 100 + db
 
   weight : ℕ → ℕ
-  weight k = least (len k) (last - (y * 10000 + (k + 1) * 100)) - (first - (y * 10000 + (k + 1) * 100 + 1))
+  weight k = min (len k) (last - (y * 10000 + (k + 1) * 100)) - (first - (y * 10000 + (k + 1) * 100 + 1))
 
   early : (k : ℕ) → k < 12 → k < a → weight k ≡ 0
   unfolding weight first last
   early k o h =
       let r = range k o in
-      rw (least_left (len k) (last - (y * 10000 + (k + 1) * 100)) (omega (arith, r.1))) (omega (arith, r.1))
+      (omega (arith, r.1))
 
   opening : (k : ℕ) → k < 12 → k ≡ a → k < b → weight k + da ≡ len k + 1
   unfolding weight first last
   opening k o e h =
       let r = range k o in
       let q : da ≤ len k = rw e da-high in
-      rw (least_left (len k) (last - (y * 10000 + (k + 1) * 100)) (omega (arith, r.1))) (omega arith)
+      (omega arith)
 
   alone : (k : ℕ) → k ≡ a → k ≡ b → weight k + da ≡ db + 1
   unfolding weight first last
   alone k e f =
       let q : db ≤ len k = rw f db-high in
-      rw (least_right (len k) (last - (y * 10000 + (k + 1) * 100)) (omega arith)) (omega arith)
+      (omega arith)
 
   whole : (k : ℕ) → k < 12 → a < k → k < b → weight k ≡ len k
   unfolding weight first last
   whole k o h j =
       let r = range k o in
-      rw (least_left (len k) (last - (y * 10000 + (k + 1) * 100)) (omega (arith, r.1))) (omega arith)
+      (omega arith)
 
   closing : (k : ℕ) → a < k → k ≡ b → weight k ≡ db
   unfolding weight first last
   closing k h f =
       let q : db ≤ len k = rw f db-high in
-      rw (least_right (len k) (last - (y * 10000 + (k + 1) * 100)) (omega arith)) (omega arith)
+      (omega arith)
 
   late : (k : ℕ) → b < k → weight k ≡ 0
   unfolding weight first last
-  late k h = rw (least_right (len k) (last - (y * 10000 + (k + 1) * 100)) (omega arith)) (omega arith)
+  late k h = (omega arith)
 
   -- the first k months
   record Upto (k : ℕ) : Type 0 where
@@ -253,7 +253,7 @@ module _ (year : ℕ) (low : 1980 ≤ year) (high : year ≤ 2100) where
   full_weights k h =
       let r = length_range year k h in
       days_in_lem (full_year year) k
-      ∙ rw (first_year, least_left (month_length year (k + 1)) (written year 12 31 - (year * 10000 + (k + 1) * 100)) (omega (arith, r.1))) (omega arith)
+      ∙ rw first_year (omega (arith, r.1))
 
   pub full_days : days_of (full_year year) ≡ cond (is_leap year) 366 365
   full_days = sym (weights_sum (full_year year) full_taken) ∙ sum_alike _ _ 12 full_weights ∙ year_length year
@@ -269,26 +269,21 @@ module _ (date : ℕ) (day : no_day date ≡ false) where
 
   module _ (k : ℕ) (h : k < 12) where
     abbrev weight_in : ℕ
-    weight_in = least (length_in (one_day date) k) (date - before_month (one_day date) k) - (date - (before_month (one_day date) k + 1))
+    weight_in = min (length_in (one_day date) k) (date - before_month (one_day date) k) - (date - (before_month (one_day date) k + 1))
 
     own_month : k + 1 ≡ month_of date → weight_in ≡ cond (eqb (k + 1) (month_of date)) 1 0
     own_month e =
         let p = is_date date day in
         let q : day_of date ≤ length_in (one_day date) k = rw e p.day_high in
-        rw (eq-eqb (k + 1) (month_of date) e, least_right (length_in (one_day date) k) (date - before_month (one_day date) k) (omega arith)) (omega (arith, p.day_low))
+        rw (eq-eqb (k + 1) (month_of date) e) (omega (arith, p.day_low))
 
     month_before : k + 1 < month_of date → weight_in ≡ cond (eqb (k + 1) (month_of date)) 1 0
     month_before e =
-        rw (
-          ne_eqb (k + 1) (month_of date) (λ z. omega arith),
-          least_left (length_in (one_day date) k) (date - before_month (one_day date) k) (omega (arith, day_range k h)),
-        )
-        (omega (arith, day_range k h))
+        rw (ne_eqb (k + 1) (month_of date) (λ z. omega arith)) (omega (arith, day_range k h))
 
     month_behind : month_of date < k + 1 → weight_in ≡ cond (eqb (k + 1) (month_of date)) 1 0
     month_behind e =
-        rw (ne_eqb (k + 1) (month_of date) (λ z. omega arith), least_right (length_in (one_day date) k) (date - before_month (one_day date) k) (omega arith))
-        (omega arith)
+        rw (ne_eqb (k + 1) (month_of date) (λ z. omega arith)) (omega arith)
 
     pub day_weights : days_in (one_day date) k ≡ cond (eqb (k + 1) (month_of date)) 1 0
     day_weights =
@@ -298,8 +293,5 @@ module _ (date : ℕ) (day : no_day date ≡ false) where
 
 -- ---- a month has at most 31 days of a period
 
-least_high : (x y : ℕ) → least x y ≤ x
-least_high x y = ⊎_elim (λ (a : x ≤ y). rw (least_left x y a) (omega arith)) (λ (b : y < x). rw (least_right x y (omega arith)) (omega arith)) (le_or_lt x y)
-
 pub days_most : (d : Days) (k : ℕ) → k < 12 → days_in d k ≤ 31
-days_most d k h = rw (days_in_lem d k) (omega (arith, least_high (length_in d k) (d.last - before_month d k), (length_range (year_of d.first) k h).1))
+days_most d k h = rw (days_in_lem d k) (omega (arith, (length_range (year_of d.first) k h).1))

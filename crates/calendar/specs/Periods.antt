@@ -62,9 +62,3 @@ month_weight (period.Days d) k = days_in d k
 abbrev pub period_weight : Period → ℕ
 period_weight period.Year = 12
 period_weight (period.Days d) = days_of d
-
--- ---- as the code goes
-
--- the lesser of two numbers
-abbrev pub least : ℕ → ℕ → ℕ
-least x y = cond (ltb x y) x y

@@ -6,7 +6,7 @@ ghost use Rattle.units.specs.Lists.{tab};
 ghost use Rattle.units.specs.Grounds.{first_fit};
 ghost use Rattle.units.specs.Refusals.{answer_number};
 ghost use Rattle.calendar.specs.Calendar.{is_leap, month_length, no_day};
-ghost use Rattle.calendar.specs.Periods.{period_from, period_grounds, TakenPeriod, days_number, TakenDays, days_in, days_of, month_weight, period_weight, least};
+ghost use Rattle.calendar.specs.Periods.{period_from, period_grounds, TakenPeriod, days_number, TakenDays, days_in, days_of, month_weight, period_weight};
 ghost use Rattle.calendar.specs.Claim.{CalendarClaim};
 
 use units::Refusal;
@@ -118,6 +118,7 @@ pub fn period_verdict(period: Period) -> Result<(), Refusal>
 }
 
 // The days of a period in month k, 0 January to 11 December.
+#[tactic(auto, using(crate::proofs::Counts::days_in_lem))]
 fn days_in(d: Days, k: usize) -> u64
     requires { k < 12 }
     ensures { result ≡ days_in d k }
