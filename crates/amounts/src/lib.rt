@@ -5,7 +5,8 @@ ghost use Rattle.std.specs.Prelude.{◌≡◌, cond, ◌+◌, ◌*◌, ◌≤◌
 ghost use Rattle.classes.specs.Classes.{has_cold};
 ghost use Rattle.coldstart.specs.ColdStart.{cold_factor};
 ghost use Rattle.inventory.specs.Adding.{billionths, x_of};
-ghost use Rattle.inventory.specs.Limits.{XLimits};
+ghost use Rattle.inventory.specs.Order.{in_billionths};
+ghost use Rattle.inventory.specs.Limits.{SumLimits, XLimits};
 
 use inventory::Amount;
 use units::{Grams, VehicleKm};
@@ -18,35 +19,34 @@ fn carried(m: Grams, s: u64) -> Amount
     if s < 1000000000 {
         return Amount { grams: m, rest: s };
     }
-    let more = m.0 + 1;
     Amount {
-        grams: Grams(more),
+        grams: Grams(m.0 + 1),
         rest: s - 1000000000,
     }
 }
 
-// A sum of g grams and r billionths with the hot grams of one road.
-pub fn with_hot(g: Grams, r: u64, k: VehicleKm, share: u64, e: u64) -> Amount
-    requires g_bound { (g.0 ≤ 5000000000000000) × (r < 1000000000) }
+// A sum with the hot grams of one road.
+pub fn with_hot(sum: Amount, k: VehicleKm, share: u64, e: u64) -> Amount
+    requires sum_limits { SumLimits sum }
     requires k_bound { (k.0 ≤ 1000000000) × (share ≤ 100) × (e ≤ 2000000000) }
-    ensures { result ≡ billionths (g.0 * 1000000000 + r + k.0 * share * e) }
+    ensures { result ≡ billionths (in_billionths sum + k.0 * share * e) }
 {
     let a = k.0 * share;
     let low = a % 1000000000 * e;
-    let s = r + low % 1000000000;
-    let m = g.0 + (a / 1000000000 * e + low / 1000000000);
+    let s = sum.rest + low % 1000000000;
+    let m = sum.grams.0 + (a / 1000000000 * e + low / 1000000000);
     carried(Grams(m), s)
 }
 
-// A sum of g grams and r billionths with the cold grams of one cold factor.
-pub fn with_cold(g: Grams, r: u64, k: VehicleKm, f: u64) -> Amount
-    requires g_bound { (g.0 ≤ 5000000000000000) × (r < 1000000000) }
+// A sum with the cold grams of one cold factor.
+pub fn with_cold(sum: Amount, k: VehicleKm, f: u64) -> Amount
+    requires sum_limits { SumLimits sum }
     requires k_bound { (k.0 ≤ 1000000000) × (f ≤ 9800000000) }
-    ensures { result ≡ billionths (g.0 * 1000000000 + r + k.0 * f * 100) }
+    ensures { result ≡ billionths (in_billionths sum + k.0 * f * 100) }
 {
     let a = k.0 * f;
-    let s = r + a % 10000000 * 100;
-    let m = g.0 + a / 10000000;
+    let s = sum.rest + a % 10000000 * 100;
+    let m = sum.grams.0 + a / 10000000;
     carried(Grams(m), s)
 }
 
@@ -56,8 +56,7 @@ pub fn cold_rate(class: u64, quantity: usize, e: u64, x: &[u64; 16]) -> u64
     ensures { result ≡ cond (has_cold class) (cold_factor e (x_of x.now class quantity)) 0 }
 {
     if classes::has_cold(class) {
-        let at = classes::x_place(class, quantity);
-        return coldstart::cold_factor(e, x[at]);
+        return coldstart::cold_factor(e, x[classes::x_place(class, quantity)]);
     }
     0
 }

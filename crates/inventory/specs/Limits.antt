@@ -21,6 +21,11 @@ pub record RecordLimits (rec : Record) : Type 0 where
 abbrev pub XLimits : List ℕ → Type 0
 XLimits xs = (i : ℕ) → i < x_count → get_or xs i 0 ≤ x_most
 
+-- a sum of a run in order, of which four are a total
+pub record SumLimits (a : Amount) : Type 0 where
+  pub grams : a.grams.0 ≤ 5000000000000000
+  pub rest : a.rest < 1000000000
+
 -- a sum or a total of a run in order: whole grams and a rest
 pub record AmountLimits (a : Amount) : Type 0 where
   pub grams : a.grams.0 ≤ 20000000000000000

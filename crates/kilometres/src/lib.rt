@@ -2,26 +2,18 @@
 #![tactic(auto)]
 
 ghost use Rattle.std.specs.Prelude.{◌≡◌};
-ghost use Rattle.units.specs.Lists.{tab};
 ghost use Rattle.inventory.specs.Limits.{RecordLimits, RunLimits};
-ghost use Rattle.inventory.specs.Adding.{km_after};
-ghost use Rattle.kilometres.specs.Parts.{of_km};
+ghost use Rattle.kilometres.specs.Parts.{of_km, with_km};
 
-use inventory::Record;
+use inventory::{Record, Run};
 use units::VehicleKm;
 
-// The kilometres with a record that is taken.
-pub fn kms_with(km: [VehicleKm; 3], rec: Record) -> [VehicleKm; 3]
+// Raises the kilometres of a record's fuel by the record's.
+pub fn add_km(run: &mut Run, rec: Record)
     requires record_limits { RecordLimits rec }
-    requires run_limits { RunLimits (of_km km) }
-    ensures { result ≡ tab (km_after (of_km km) rec) 3 }
+    requires run_limits { RunLimits (of_km run.old.km) }
+    ensures { run.new ≡ with_km run.old rec }
 {
-    let mut r = km;
     let fuel = classes::fuel_of(rec.class);
-    let distance = rec.vehicles * rec.km;
-    let m = r[fuel];
-    let sum = m.0 + distance;
-    let m = VehicleKm(sum);
-    r[fuel] = m;
-    r
+    run.km[fuel] = VehicleKm(run.km[fuel].0 + rec.vehicles * rec.km);
 }

@@ -3,17 +3,15 @@
 
 ghost use Rattle.std.specs.Prelude.{◌≡◌, ◌<◌, true};
 ghost use Rattle.units.specs.Grounds.{first_fit};
-ghost use Rattle.units.specs.Refusals.{verdict_number};
+ghost use Rattle.units.specs.Refusals.{answer_number};
 ghost use Rattle.inventory.specs.Order.{in_order};
-ghost use Rattle.inventory.specs.Limits.{RecordLimits};
-ghost use Rattle.inventory.specs.Opening.{zero_run, open_number, open_run};
-ghost use Rattle.inventory.specs.Adding.{run_with, ordered_grounds, add_number, add_run};
+ghost use Rattle.inventory.specs.Limits.{RecordLimits, RunLimits};
+ghost use Rattle.inventory.specs.Opening.{zero_run, open_number, open_run, given_run};
+ghost use Rattle.inventory.specs.Adding.{with_totals, raised, run_with, ordered_grounds, raised_run, add_number, add_run};
 ghost use Rattle.accuracy.specs.Claim.{EveryList};
 
-use inventory::{Added, Head, Opened, Record, Run};
-use run_totals::TotalAmounts;
-use sums::WholeGrams;
-use units::{Grams, Refusal, VehicleKm, Verdict};
+use inventory::{Head, Record, Run};
+use units::{Grams, Refusal, VehicleKm};
 
 // The run of zeros.
 pub fn zeros() -> Run
@@ -31,110 +29,72 @@ pub fn zeros() -> Run
     }
 }
 
-// Opens a run: 1, 2, 19, 20; a refused head gives the run of zeros. The last clause is SPECIFICATION, "Accuracy", for every list of adds.
-pub fn open_run(head: Head) -> Opened
-    ensures number { verdict_number result.verdict ≡ open_number head }
-    ensures run { result.run ≡ open_run head }
-    ensures lists { verdict_number result.verdict ≡ 0 → EveryList head }
+// Opens a run: 1, 2, 19, 20. The last clause is SPECIFICATION, "Accuracy", for every list of adds.
+pub fn open_run(head: Head) -> Result<Run, Refusal>
+    ensures number { answer_number result ≡ open_number head }
+    ensures run { given_run result ≡ open_run head }
+    ensures lists { answer_number result ≡ 0 → EveryList head }
 {
+    verdicts::head_verdict(&head)?;
     let mut run = zeros();
-    let v = verdicts::head_verdict(head);
-    match v {
-        Verdict::Refused(x) => {
-            return Opened {
-                run,
-                verdict: Verdict::Refused(x),
-            };
-        }
-        Verdict::Taken => {}
-    }
-    let temps = head.temps;
-    let period = head.period;
     run.trip = head.trip;
-    let x = cold_values::cold_values(head.trip, &temps, period);
-    run.x = x;
-    Opened {
-        run,
-        verdict: Verdict::Taken,
-    }
+    run.x = cold_values::cold_values(head.trip, &head.temps, head.period);
+    Ok(run)
 }
 
 // Whether an add to a run in order with so many records is refused: 3 to 8, then 9.
-pub fn add_verdict(count: u64, rec: Record) -> Verdict
-    ensures { verdict_number result ≡ first_fit (ordered_grounds count rec) }
+pub fn add_verdict(count: u64, rec: &Record) -> Result<(), Refusal>
+    ensures { answer_number result ≡ first_fit (ordered_grounds count rec.now) }
 {
-    let v = verdicts::record_verdict(rec);
-    match v {
-        Verdict::Refused(x) => {
-            return Verdict::Refused(x);
-        }
-        Verdict::Taken => {}
-    }
+    verdicts::record_verdict(rec)?;
     if 5000 <= count {
-        return Verdict::Refused(Refusal::FullRun);
+        return Err(Refusal::FullRun);
     }
-    Verdict::Taken
+    Ok(())
 }
 
-// The run with a record that is taken; of its totals only those of the record's fuel are made anew.
-pub fn run_with(run: Run, rec: Record) -> Run
+// Takes a record into count, kilometres and sums; the totals are still those of before.
+fn raise(run: &mut Run, rec: Record)
     requires record_limits { RecordLimits rec }
-    requires run_value { (in_order run ≡ true) × (run.count < 5000) }
-    ensures { result ≡ run_with run rec }
+    requires run_limits { RunLimits run.old × (run.old.count < 5000) }
+    ensures { run.new ≡ raised run.old rec }
 {
-    let x = run.x;
-    let mut rests = run.rests;
-    let old = run.grams;
-    let whole = sums::sums_with(WholeGrams { sums: old }, &mut rests, &x, rec);
-    let grams = whole.sums;
-    let old = run.km;
-    let km = kilometres::kms_with(old, rec);
-    let total_grams = run.total_grams;
-    let total_rests = run.total_rests;
-    let before = TotalAmounts {
-        grams: total_grams,
-        rests: total_rests,
-    };
-    let fuel = classes::fuel_of(rec.class);
-    let totals = run_totals::totals_from(before, grams, &rests, fuel * 5, fuel * 5 + 5);
-    let total_grams = totals.grams;
-    let total_rests = totals.rests;
-    Run {
-        trip: run.trip,
-        x,
-        count: run.count + 1,
-        km,
-        grams,
-        rests,
-        total_grams,
-        total_rests,
-    }
+    sums::add_sums(run, rec);
+    kilometres::add_km(run, rec);
+    run.count += 1;
 }
 
-// Adds a record to a run; a refused record gives back the run as it came.
-pub fn add(run: Run, rec: Record) -> Added
-    ensures number { verdict_number result.verdict ≡ add_number run rec }
-    ensures run { result.run ≡ add_run run rec }
+// Takes a record; of the totals only those of its fuel are made anew.
+pub fn enter(run: &mut Run, rec: Record)
+    requires record_limits { RecordLimits rec }
+    requires run_value { (in_order run.old ≡ true) × (run.old.count < 5000) }
+    ensures { run.new ≡ run_with run.old rec }
+{
+    raise(run, rec);
+    let first = classes::fuel_of(rec.class) * 5;
+    run_totals::make_totals(run, first, first + 5);
+}
+
+// Adds a record of a sheet or a list to a run that will be in order once its totals are made, at the end: 3 to 9.
+pub fn add_before_totals(run: &mut Run, rec: Record) -> Result<(), Refusal>
+    requires { in_order (with_totals run.old) ≡ true }
+    ensures number { answer_number result ≡ first_fit (ordered_grounds run.old.count rec) }
+    ensures run { run.new ≡ raised_run run.old rec }
+{
+    add_verdict(run.count, &rec)?;
+    raise(run, rec);
+    Ok(())
+}
+
+// Adds a record to a run; a refused record leaves the run as it came.
+pub fn add(run: &mut Run, rec: Record) -> Result<(), Refusal>
+    ensures number { answer_number result ≡ add_number run.old rec }
+    ensures run { run.new ≡ add_run run.old rec }
 {
     if !order::in_order(run) {
-        return Added {
-            run,
-            verdict: Verdict::Refused(Refusal::RunOrder),
-        };
+        return Err(Refusal::RunOrder);
     }
-    let v = add_verdict(run.count, rec);
-    match v {
-        Verdict::Refused(x) => {
-            return Added {
-                run,
-                verdict: Verdict::Refused(x),
-            };
-        }
-        Verdict::Taken => {}
-    }
-    let r = run_with(run, rec);
-    Added {
-        run: r,
-        verdict: Verdict::Taken,
-    }
+    add_verdict(run.count, &rec)?;
+    enter(run, rec);
+    Ok(())
 }

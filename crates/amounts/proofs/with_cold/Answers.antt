@@ -18,4 +18,4 @@ carried-requires c = omega (arith, mul-le-mul c.requires.k_bound.0 c.requires.k_
 
 pub returns : goal.returns
 returns c =
-    c.carried.ensures ∙ ap billionths (cold_made c.args.g.0 c.args.r (c.args.k.0 * c.args.f))
+    c.carried.ensures ∙ ap billionths (cold_made c.args.sum.grams.0 c.args.sum.rest (c.args.k.0 * c.args.f))

@@ -26,4 +26,4 @@ carried-requires c = omega (arith, hot_fits _ _ _ c.requires.k_bound.0 c.require
 
 pub returns : goal.returns
 returns c =
-    c.carried.ensures ∙ ap billionths (hot_made c.args.g.0 c.args.r (c.args.k.0 * c.args.share) c.args.e)
+    c.carried.ensures ∙ ap billionths (hot_made c.args.sum.grams.0 c.args.sum.rest (c.args.k.0 * c.args.share) c.args.e)
