@@ -8,8 +8,8 @@ ghost use Rattle.inventory.specs.Order.{in_order, x_ok, km_ok};
 
 use inventory::Run;
 
-fn xs_ok(run: Run) -> bool
-    ensures { result ≡ all_below (x_ok run) x_count }
+fn xs_ok(run: &Run) -> bool
+    ensures { result ≡ all_below (x_ok run.now) x_count }
 {
     let mut k: usize = 0;
     while k < 16 {
@@ -21,9 +21,9 @@ fn xs_ok(run: Run) -> bool
     true
 }
 
-fn kms_ok(run: Run) -> bool
-    requires { run.count ≤ 5000 }
-    ensures { result ≡ all_below (km_ok run) 3 }
+fn kms_ok(run: &Run) -> bool
+    requires { run.now.count ≤ 5000 }
+    ensures { result ≡ all_below (km_ok run.now) 3 }
 {
     let limit = 1000000000 * run.count;
     let mut k: usize = 0;
@@ -38,8 +38,8 @@ fn kms_ok(run: Run) -> bool
 }
 
 // Whether the run is in order.
-pub fn in_order(run: Run) -> bool
-    ensures { result ≡ in_order run }
+pub fn in_order(run: &Run) -> bool
+    ensures { result ≡ in_order run.now }
 {
     if units::is_outside(10, 200, run.trip) {
         return false;

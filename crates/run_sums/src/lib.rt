@@ -6,37 +6,37 @@ ghost use Rattle.units.specs.Lists.{all_below};
 ghost use Rattle.inventory.specs.Order.{sum_within, sum_ok, sums_ok};
 ghost use Rattle.run_sums.specs.Marks.{rest_mark};
 
-use inventory::Run;
+use inventory::{Amount, Run};
 use units::Grams;
 
-// Whether a sum of g grams and r billionths has its rest below the limit and is at most limit grams.
-pub fn sum_ok(limit: Grams, g: Grams, r: u64) -> bool
-    ensures { result ≡ sum_within limit.0 g.0 r }
+// Whether a sum has its rest below the limit and is at most limit grams.
+pub fn sum_ok(limit: Grams, a: Amount) -> bool
+    ensures { result ≡ sum_within limit.0 a.grams.0 a.rest }
 {
-    if 1000000000 <= r {
+    if 1000000000 <= a.rest {
         return false;
     }
-    if g.0 < limit.0 {
+    if a.grams.0 < limit.0 {
         return true;
     }
-    if limit.0 < g.0 {
+    if limit.0 < a.grams.0 {
         return false;
     }
-    if 0 < r {
+    if 0 < a.rest {
         return false;
     }
     true
 }
 
 // Whether the sums are in order, sum by sum.
-fn each_sum_ok(run: Run) -> bool
-    requires { run.count ≤ 5000 }
-    ensures { result ≡ all_below (sum_ok run) 60 }
+fn each_sum_ok(run: &Run) -> bool
+    requires { run.now.count ≤ 5000 }
+    ensures { result ≡ all_below (sum_ok run.now) 60 }
 {
     let limit = Grams(1000000000000 * run.count);
     let mut k: usize = 0;
     while k < 60 {
-        if !sum_ok(limit, run.grams[k], run.rests[k]) {
+        if !sum_ok(limit, run.sum(k)) {
             return false;
         }
         k += 1;
@@ -52,8 +52,8 @@ pub fn rest_mark(rest: u64) -> u64
 }
 
 // Where it says yes, every sum and every total is 0: two `or` over them tell it without a branch.
-fn nothing_in(run: Run) -> bool
-    ensures { result ≡ true → true ≡ sums_ok run }
+fn nothing_in(run: &Run) -> bool
+    ensures { result ≡ true → true ≡ sums_ok run.now }
 {
     let mut gram_bits: u64 = 0;
     let mut rest_bits: u64 = 0;
@@ -78,9 +78,9 @@ fn nothing_in(run: Run) -> bool
 }
 
 // Whether the sums are in order: sum by sum only where two `or` over all 60 do not decide, which have no branch and are fast.
-fn kinds_ok(run: Run) -> bool
-    requires { run.count ≤ 5000 }
-    ensures { result ≡ all_below (sum_ok run) 60 }
+fn kinds_ok(run: &Run) -> bool
+    requires { run.now.count ≤ 5000 }
+    ensures { result ≡ all_below (sum_ok run.now) 60 }
 {
     let mut gram_bits: u64 = 0;
     let mut marks: u64 = 0;
@@ -102,9 +102,9 @@ fn kinds_ok(run: Run) -> bool
 
 // Whether the sums and totals are in order; those of a run without records are 0. Each test is called at one place, so that the
 // compiler puts it there and reads the run where it lies.
-pub fn sums_ok(run: Run) -> bool
-    requires { run.count ≤ 5000 }
-    ensures { result ≡ sums_ok run }
+pub fn sums_ok(run: &Run) -> bool
+    requires { run.now.count ≤ 5000 }
+    ensures { result ≡ sums_ok run.now }
 {
     if run.count == 0 {
         if nothing_in(run) {

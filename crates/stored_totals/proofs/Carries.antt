@@ -104,7 +104,3 @@ told_at run s carries t k e h z =
 
 pub grams_limit : (run : Run) → run.count ≤ 5000 → all_below (sum_ok run) 60 ≡ true → (j : ℕ) → j < 60 → grams_in run j ≤ 20000000000000000
 grams_limit run c s j h = omega (arith, grams_passed run s c j h)
-
--- a sum whose test passed
-pub amount_passed : (run : Run) → run.count ≤ 5000 → all_below (sum_ok run) 60 ≡ true → (j : ℕ) → j < 60 → AmountLimits (get_or run.grams j (record { 0 = 0 })) (rest_in run j)
-amount_passed run c s j h = record { grams = omega (arith, grams_passed run s c j h); rest = rest_passed run s j h }

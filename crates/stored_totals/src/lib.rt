@@ -7,7 +7,7 @@ ghost use Rattle.inventory.specs.Order.{in_billionths, is_amount, sum_ok, total_
 ghost use Rattle.inventory.specs.Limits.{AmountLimits};
 ghost use Rattle.stored_totals.specs.Carries.{carry_of, rest_ok};
 
-use inventory::Run;
+use inventory::{Amount, Run};
 use units::Grams;
 
 // What a total has above the whole grams of its four kinds; 4, which four rests cannot carry, where it has less.
@@ -36,30 +36,26 @@ fn rest_ok(carry: u64, rest: u64, p: u64, q: u64, r: u64, s: u64) -> bool
     carry * 1000000000 + rest == p + q + r + s
 }
 
-// Whether a total with its rest is the sum of four kinds with theirs.
-pub fn is_total(
-    total: Grams,
-    rest: u64,
-    a: Grams,
-    p: u64,
-    b: Grams,
-    q: u64,
-    c: Grams,
-    r: u64,
-    d: Grams,
-    s: u64,
-) -> bool
-    requires { AmountLimits a p × AmountLimits b q × AmountLimits c r × AmountLimits d s }
-    ensures { result ≡ is_amount (in_billionths a p + in_billionths b q + in_billionths c r + in_billionths d s) total.0 rest }
+// Whether a total is the sum of its four kinds.
+pub fn is_total(total: Amount, a: Amount, b: Amount, c: Amount, d: Amount) -> bool
+    requires { AmountLimits a × AmountLimits b × AmountLimits c × AmountLimits d }
+    ensures { result ≡ is_amount (in_billionths a + in_billionths b + in_billionths c + in_billionths d) total.grams.0 total.rest }
 {
-    rest_ok(carry_of(total, a, b, c, d), rest, p, q, r, s)
+    rest_ok(
+        carry_of(total.grams, a.grams, b.grams, c.grams, d.grams),
+        total.rest,
+        a.rest,
+        b.rest,
+        c.rest,
+        d.rest,
+    )
 }
 
 // Whether the totals of a run whose sums are in order are in order: all grams first, then all rests, since the compiler unrolls two
 // short loops, and then reads the run where it lies.
-pub fn totals_ok(run: Run) -> bool
-    requires { (run.count ≤ 5000) × (all_below (sum_ok run) 60 ≡ true) }
-    ensures { result ≡ all_below (total_ok run) 15 }
+pub fn totals_ok(run: &Run) -> bool
+    requires { (run.now.count ≤ 5000) × (all_below (sum_ok run.now) 60 ≡ true) }
+    ensures { result ≡ all_below (total_ok run.now) 15 }
 {
     let mut carries = [0u64; 15];
     let mut i: usize = 0;

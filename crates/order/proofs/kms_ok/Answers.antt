@@ -12,10 +12,10 @@ unfolding all_below
 loop-k-init c = (omega arith, refl)
 
 pub returns-then-limit-km : goal.returns-then-limit-km
-returns-then-limit-km c = sym (fails (km_ok c.args.run) 3 c.loop-k.k (omega arith) (lt-leb _ _ c.if-limit-km.true))
+returns-then-limit-km c = sym (fails (km_ok c.args.run.now) 3 c.loop-k.k (omega arith) (lt-leb _ _ c.if-limit-km.true))
 
 pub loop-k-preserved : goal.loop-k-preserved
-loop-k-preserved c = (omega arith, more (km_ok c.args.run) c.loop-k.k c.loop-k.invariant.1 (le-leb _ _ c.if-limit-km.false))
+loop-k-preserved c = (omega arith, more (km_ok c.args.run.now) c.loop-k.k c.loop-k.invariant.1 (le-leb _ _ c.if-limit-km.false))
 
 pub returns : goal.returns
 returns c = done _ 3 _ c.loop-k.invariant.1 (omega arith) (omega arith)

@@ -8,10 +8,10 @@ pub returns-then-nothing_in : goal.returns-then-nothing_in
 returns-then-nothing_in c = c.nothing_in.ensures c.if-nothing_in.true
 
 pub returns-then-not-kinds_ok : goal.returns-then-not-kinds_ok
-returns-then-not-kinds_ok c = bad_sums c.args.run (sym c.kinds_ok.ensures ∙ c.if-not-kinds_ok.true)
+returns-then-not-kinds_ok c = bad_sums c.args.run.now (sym c.kinds_ok.ensures ∙ c.if-not-kinds_ok.true)
 
 pub totals_ok-requires : goal.totals_ok-requires
 totals_ok-requires c = (omega arith, sym c.kinds_ok.ensures ∙ c.if-not-kinds_ok.false)
 
 pub returns : goal.returns
-returns c = then_totals c.args.run (sym c.kinds_ok.ensures ∙ c.if-not-kinds_ok.false) _ c.totals_ok.ensures
+returns c = then_totals c.args.run.now (sym c.kinds_ok.ensures ∙ c.if-not-kinds_ok.false) _ c.totals_ok.ensures

@@ -6,4 +6,4 @@ use Rattle.stored_totals.proofs.Carries.{total_by}
 use Rattle.stored_totals.proofs.is_total.Goals as goal
 
 pub returns : goal.returns
-returns c = c.rest_ok.ensures ∙ ap (λ n. rest_ok n c.args.rest (c.args.p + c.args.q + c.args.r + c.args.s)) c.carry_of.ensures ∙ total_by c.args.a.0 c.args.b.0 c.args.c.0 c.args.d.0 c.args.p c.args.q c.args.r c.args.s c.args.total.0 c.args.rest c.requires.0.rest c.requires.1.rest c.requires.2.rest c.requires.3.rest
+returns c = let a = c.args in c.rest_ok.ensures ∙ ap (λ n. rest_ok n a.total.rest (a.a.rest + a.b.rest + a.c.rest + a.d.rest)) c.carry_of.ensures ∙ total_by a.a.grams.0 a.b.grams.0 a.c.grams.0 a.d.grams.0 a.a.rest a.b.rest a.c.rest a.d.rest a.total.grams.0 a.total.rest c.requires.0.rest c.requires.1.rest c.requires.2.rest c.requires.3.rest
