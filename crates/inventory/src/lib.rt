@@ -5,7 +5,10 @@ ghost use Rattle.std.specs.Prelude.{◌≡◌, ◌<◌};
 ghost use Rattle.inventory.specs.Limits.{Shaped};
 ghost use Rattle.inventory.specs.Amounts.{sum_amount, total_amount, with_sum, with_total};
 
+mod numbers;
+
 use calendar::Period;
+pub use numbers::RunNumbers;
 use units::{Grams, Speeds, VehicleKm};
 
 // A head: the mean trip length in tenths of km, twelve monthly mean temperatures in tenths of a degree Celsius, and what it
