@@ -19,6 +19,10 @@ hot_fits k s e hk hs he =
     let high : k * s / 1000000000 ≤ 100 = omega arith in
     (a, mul-le-mul low he, mul-le-mul high he)
 
+-- what fits in `cold`
+pub cold_fits : (k f : ℕ) → k ≤ 1000000000 → f ≤ 9800000000 → k * f ≤ 9800000000000000000
+cold_fits k f a b = mul-le-mul a b
+
 -- an amount by its parts
 pub amount : {g h r s : ℕ} → g ≡ h → r ≡ s → ◌≡◌ {A = Amount} (record { grams = record { 0 = g }; rest = r }) (record { grams = record { 0 = h }; rest = s })
 amount p q = cc

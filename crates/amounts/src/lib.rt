@@ -12,6 +12,7 @@ use inventory::Amount;
 use units::{Grams, VehicleKm};
 
 // m grams and s billionths, of which one gram may be carried.
+#[tactic(auto, using(crate::proofs::Products::plain, crate::proofs::Products::carry))]
 fn carried(m: Grams, s: u64) -> Amount
     requires { (m.0 ≤ 10000000000000000) × (s < 2000000000) }
     ensures { result ≡ billionths (m.0 * 1000000000 + s) }
@@ -26,6 +27,7 @@ fn carried(m: Grams, s: u64) -> Amount
 }
 
 // A sum with the hot grams of one road.
+#[tactic(auto, using(crate::proofs::Products::hot_fits))]
 pub fn with_hot(sum: Amount, k: VehicleKm, share: u64, e: u64) -> Amount
     requires sum_limits { SumLimits sum }
     requires k_bound { (k.0 ≤ 1000000000) × (share ≤ 100) × (e ≤ 2000000000) }
@@ -39,6 +41,7 @@ pub fn with_hot(sum: Amount, k: VehicleKm, share: u64, e: u64) -> Amount
 }
 
 // A sum with the cold grams of one cold factor.
+#[tactic(auto, using(crate::proofs::Products::cold_fits))]
 pub fn with_cold(sum: Amount, k: VehicleKm, f: u64) -> Amount
     requires sum_limits { SumLimits sum }
     requires k_bound { (k.0 ≤ 1000000000) × (f ≤ 9800000000) }
@@ -51,6 +54,7 @@ pub fn with_cold(sum: Amount, k: VehicleKm, f: u64) -> Amount
 }
 
 // The cold factor of a class and a quantity from E and the values X, 0 for a class without a cold part.
+#[tactic(auto, using(classes::proofs::Classes::x_below))]
 pub fn cold_rate(class: u64, quantity: usize, e: u64, x: &[u64; 16]) -> u64
     requires { (quantity < 5) × (e ≤ 2000000000) × XLimits x.now }
     ensures { result ≡ cond (has_cold class) (cold_factor e (x_of x.now class quantity)) 0 }

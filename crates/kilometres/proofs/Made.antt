@@ -1,5 +1,6 @@
 -- The kilometres with a record. Assumes nothing.
-use mathlib.Core.Path.{◌≡◌, refl, sym, ◌∙◌}
+use mathlib.Core.Path.{◌≡◌, refl, ap, sym, ◌∙◌}
+use mathlib.Core.List.{List}
 use Prim.Native.Nat.{ℕ, ◌+◌, ◌≤◌}
 use native.Mathlib.Omega.{arith}
 use lib.ListN.{length, get_or, set}
@@ -14,6 +15,7 @@ use Rattle.inventory.specs.declared.Run.{Run}
 use Rattle.inventory.specs.Records.{vehicle_km}
 use Rattle.inventory.specs.Order.{km_in}
 use Rattle.inventory.specs.Adding.{km_of, km_after}
+use Rattle.kilometres.specs.Parts.{with_km}
 
 pub fuel_most : (rec : Record) (fuel : ℕ) → fuel ≡ fuel_of rec.class → fuel ≤ 2
 fuel_most rec fuel e = omega (arith, fuel_below rec.class)
@@ -30,8 +32,12 @@ module _ (run : Run) (rec : Record) (fuel : ℕ) (ef : fuel ≡ fuel_of rec.clas
   unfolding km_after km_of
   km_other j h = rw (ne_eqb j (fuel_of rec.class) (λ z. h (z ∙ sym ef))) (km_by _)
 
-  pub kms_made : length run.km ≡ 3 → set run.km fuel (record { 0 = km_in run fuel + vehicle_km rec }) ≡ tab (km_after run rec) 3
+  kms_made : length run.km ≡ 3 → set run.km fuel (record { 0 = km_in run fuel + vehicle_km rec }) ≡ tab (km_after run rec) 3
   kms_made h =
       between
       (between_more fuel (fuel + 1) _ (between_none (record { 0 = 0 }) (km_after run rec) run.km 3 fuel fuel h refl) refl refl (omega arith) (omega arith) km_new)
       (λ j l out. km_other j (λ z. out (omega arith) (omega arith)))
+
+  -- the run with the raised kilometres
+  pub raised_km : length run.km ≡ 3 → record run { km = set run.km fuel (record { 0 = km_in run fuel + vehicle_km rec }) } ≡ with_km run rec
+  raised_km h = ap (λ (km : List VehicleKm). record run { km = km }) (kms_made h)

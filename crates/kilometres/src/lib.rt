@@ -9,6 +9,7 @@ use inventory::{Record, Run};
 use units::VehicleKm;
 
 // Raises the kilometres of a record's fuel by the record's.
+#[tactic(auto, using(crate::proofs::Made::fuel_most), unfolding(inventory::specs::Records::vehicle_km))]
 pub fn add_km(run: &mut Run, rec: Record)
     requires record_limits { RecordLimits rec }
     requires run_limits { RunLimits (of_km run.old.km) }
