@@ -5,45 +5,38 @@ use native.Mathlib.Omega.{arith}
 use Rattle.units.specs.declared.Grams.{Grams}
 use Rattle.units.proofs.Tab.{tab_at}
 use Rattle.inventory.specs.declared.Run.{Run}
-use Rattle.inventory.specs.Order.{in_billionths, grams_in, rest_in, sum_at, place, stored_total}
+use Rattle.inventory.specs.Order.{in_billionths, sum_at, place}
+use Rattle.inventory.specs.Amounts.{sum_amount, total_amount}
 use Rattle.inventory.specs.Limits.{TotalLimits}
 use Rattle.inventory.specs.Printed.{printed_kind, printed_total}
-use Rattle.inventory.proofs.Totals.{half_grams}
+use Rattle.inventory.proofs.Amounts.{grams_by}
+use Rattle.units.specs.Rounding.{half_up}
 use Rattle.figures.specs.declared.Row.{Row}
 use Rattle.figures.specs.Table.{grams, printed_row, row_at, figures, row_in, row_from}
 
--- the code's rounding of a row's four sums and total
-pub row_made : (a : Grams) (p : ℕ) (b : Grams) (q : ℕ) (c : Grams) (r : ℕ) (d : Grams) (s : ℕ) (t : Grams) (u : ℕ) → ◌≡◌ {A = Row}
-    (record {
-      urban = grams (a.0 + (p + 500000000) / 1000000000);
-      rural = grams (b.0 + (q + 500000000) / 1000000000);
-      highway = grams (c.0 + (r + 500000000) / 1000000000);
-      cold = grams (d.0 + (s + 500000000) / 1000000000);
-      total = grams (t.0 + (u + 500000000) / 1000000000);
-    })
-    (row_from (in_billionths a p) (in_billionths b q) (in_billionths c r) (in_billionths d s) (in_billionths t u))
+-- a row by its five roundings
+pub row_made : (row : Row) (a b c d t : ℕ) → row.urban.0 ≡ half_up a 1000000000 → row.rural.0 ≡ half_up b 1000000000 → row.highway.0 ≡ half_up c 1000000000
+    → row.cold.0 ≡ half_up d 1000000000 → row.total.0 ≡ half_up t 1000000000 → row ≡ row_from a b c d t
 unfolding row_from
-row_made a p b q c r d s t u =
-    λ i. record {
-      urban = grams (half_grams a.0 p i);
-      rural = grams (half_grams b.0 q i);
-      highway = grams (half_grams c.0 r i);
-      cold = grams (half_grams d.0 s i);
-      total = grams (half_grams t.0 u i);
-    }
+row_made row a b c d t p q v w x =
+    let u = grams_by row.urban _ p in
+    let r = grams_by row.rural _ q in
+    let h = grams_by row.highway _ v in
+    let k = grams_by row.cold _ w in
+    let s = grams_by row.total _ x in
+    λ i. record { urban = u i; rural = r i; highway = h i; cold = k i; total = s i }
 
 -- the row k from the four sums at k × 4 and the stored total k
-pub row_from_lem : (run : Run) → TotalLimits run → (k j : ℕ) → k < 15 → j ≡ k * 4
-    → row_from (grams_in run j * 1000000000 + rest_in run j) (grams_in run (j + 1) * 1000000000 + rest_in run (j + 1))
-    (grams_in run (j + 2) * 1000000000 + rest_in run (j + 2)) (grams_in run (j + 3) * 1000000000 + rest_in run (j + 3))
-    (stored_total run k)
+pub row_from_lem : (run : Run) → TotalLimits run → (k : ℕ) → k < 15
+    → row_from (in_billionths (sum_amount run (k * 4))) (in_billionths (sum_amount run (k * 4 + 1))) (in_billionths (sum_amount run (k * 4 + 2))) (in_billionths (sum_amount run (k * 4 + 3)))
+    (in_billionths (total_amount run k))
     ≡ row_at run k
 unfolding row_from printed_row printed_kind printed_total sum_at
-row_from_lem run lim k j h e =
-    let a : place (k / 5) (k % 5) 0 ≡ j = omega arith in
-    let b : place (k / 5) (k % 5) 1 ≡ j + 1 = omega arith in
-    let c : place (k / 5) (k % 5) 2 ≡ j + 2 = omega arith in
-    let d : place (k / 5) (k % 5) 3 ≡ j + 3 = omega arith in
+row_from_lem run lim k h =
+    let a : place (k / 5) (k % 5) 0 ≡ k * 4 = omega arith in
+    let b : place (k / 5) (k % 5) 1 ≡ k * 4 + 1 = omega arith in
+    let c : place (k / 5) (k % 5) 2 ≡ k * 4 + 2 = omega arith in
+    let d : place (k / 5) (k % 5) 3 ≡ k * 4 + 3 = omega arith in
     rw (lim.exact k h, a, b, c, d)
 
 -- a row of the table

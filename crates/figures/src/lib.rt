@@ -6,7 +6,7 @@ ghost use Rattle.inventory.specs.Order.{in_billionths};
 ghost use Rattle.inventory.specs.Limits.{AmountLimits, RunLimits, TotalLimits};
 ghost use Rattle.figures.specs.Table.{row_from, figures};
 
-use inventory::Run;
+use inventory::{Amount, Run};
 use units::Grams;
 
 // The printed figures of a fuel and a quantity.
@@ -25,35 +25,24 @@ pub struct Figures {
     pub rows: [Row; 15],
 }
 
-// A row from the grams and rests of its four sums and of its total.
-fn row_from(
-    a: Grams,
-    p: u64,
-    b: Grams,
-    q: u64,
-    c: Grams,
-    r: u64,
-    d: Grams,
-    s: u64,
-    t: Grams,
-    u: u64,
-) -> Row
-    requires { AmountLimits a p × AmountLimits b q × AmountLimits c r × AmountLimits d s × AmountLimits t u }
-    ensures { result ≡ row_from (in_billionths a p) (in_billionths b q) (in_billionths c r) (in_billionths d s) (in_billionths t u) }
+// A row from its four sums and its total.
+fn row_from(urban: Amount, rural: Amount, highway: Amount, cold: Amount, total: Amount) -> Row
+    requires { AmountLimits urban × AmountLimits rural × AmountLimits highway × AmountLimits cold × AmountLimits total }
+    ensures { result ≡ row_from (in_billionths urban) (in_billionths rural) (in_billionths highway) (in_billionths cold) (in_billionths total) }
 {
     Row {
-        urban: Grams(a.0 + (p + 500000000) / 1000000000),
-        rural: Grams(b.0 + (q + 500000000) / 1000000000),
-        highway: Grams(c.0 + (r + 500000000) / 1000000000),
-        cold: Grams(d.0 + (s + 500000000) / 1000000000),
-        total: Grams(t.0 + (u + 500000000) / 1000000000),
+        urban: printed::to_grams(urban),
+        rural: printed::to_grams(rural),
+        highway: printed::to_grams(highway),
+        cold: printed::to_grams(cold),
+        total: printed::to_grams(total),
     }
 }
 
 // The printed figures of a run in order.
-pub fn figures_of(run: Run) -> Figures
-    requires { RunLimits run × TotalLimits run }
-    ensures { result ≡ figures run }
+pub fn figures_of(run: &Run) -> Figures
+    requires { RunLimits run.now × TotalLimits run.now }
+    ensures { result ≡ figures run.now }
 {
     let none = Row {
         urban: Grams(0),
@@ -63,23 +52,15 @@ pub fn figures_of(run: Run) -> Figures
         total: Grams(0),
     };
     let mut rows = [none; 15];
-    let mut k: usize = 0;
-    while k < 15 {
+    for k in 0..15 {
         let j = k * 4;
-        let row = row_from(
-            run.grams[j],
-            run.rests[j],
-            run.grams[j + 1],
-            run.rests[j + 1],
-            run.grams[j + 2],
-            run.rests[j + 2],
-            run.grams[j + 3],
-            run.rests[j + 3],
-            run.total_grams[k],
-            run.total_rests[k],
+        rows[k] = row_from(
+            run.sum(j),
+            run.sum(j + 1),
+            run.sum(j + 2),
+            run.sum(j + 3),
+            run.total(k),
         );
-        rows[k] = row;
-        k += 1;
     }
     Figures { rows }
 }
