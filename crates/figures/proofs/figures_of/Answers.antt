@@ -1,9 +1,8 @@
 -- `figures::figures_of` meets its contract. Assumes nothing.
-use mathlib.Core.Path.{refl, ap, ◌∙◌}
+use mathlib.Core.Path.{refl}
 use native.Mathlib.Omega.{arith}
 use Rattle.units.proofs.Tab.{filled_none, filled_more, filled}
 use Rattle.inventory.proofs.Amounts.{sum_limits, total_limits}
-use Rattle.inventory.specs.Order.{in_billionths}
 use Rattle.figures.specs.Table.{figures}
 use Rattle.figures.proofs.Rows.{row_from_lem}
 use Rattle.figures.proofs.figures_of.Goals as goal
