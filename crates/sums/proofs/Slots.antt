@@ -1,13 +1,11 @@
--- The four sums of a quantity, as `run_with` computes them from the 15 factors f of the record. Assumes nothing.
-use mathlib.Core.Path.{◌≡◌, refl, ap, sym, ◌∙◌}
+-- The four sums of a quantity, as `add_sums` computes them from the 15 factors f of the record. Assumes nothing.
+use mathlib.Core.Path.{◌≡◌, ap, ◌∙◌}
 use mathlib.Core.Bool.{cond}
 use mathlib.Core.List.{List}
 use Prim.Native.Nat.{ℕ, ◌+◌, ◌*◌, ◌/◌, ◌%◌, ◌≤◌, ◌<◌}
 use native.Mathlib.Omega.{arith}
 use lib.ListN.{get_or}
-use Rattle.units.specs.declared.Grams.{Grams}
 use Rattle.units.specs.Lists.{tab}
-use Rattle.units.proofs.Between.{Between}
 use Rattle.classes.specs.Classes.{fuel_of, has_cold}
 use Rattle.factors.specs.Factors.{factor_at}
 use Rattle.factors.proofs.Factors.{factor_read}
@@ -56,15 +54,3 @@ module _ (rec : Record) (f : List ℕ) (given : Factors rec f) (q : ℕ) (hq : q
 -- each of the 15 factors is small
 pub factor_most : (rec : Record) (f : List ℕ) → Factors rec f → RecordLimits rec → (i : ℕ) → i < 15 → get_or f i 0 ≤ 2000000000
 factor_most rec f given lim i h = factor_small rec f given (i / 3) (omega arith) lim (i % 3) i (omega arith) (omega arith)
-
--- ---- a sum that is not written yet is that of the old run
-
-pub above_grams : {f : ℕ → Grams} {l₀ : List Grams} {n lo hi : ℕ} {l : List Grams} → Between (record { 0 = 0 }) f l₀ n lo hi l → (j : ℕ) → hi ≤ j
-    → (get_or l j (record { 0 = 0 })).0 ≡ (get_or l₀ j (record { 0 = 0 })).0
-above_grams b j h = ap (λ g. g.0) (b.above j h)
-
--- and so is within the bounds of a run in order
-pub slot_small : {run : Run} {f : ℕ → Grams} {h : ℕ → ℕ} {lo hi : ℕ} {l : List Grams} {m : List ℕ} → RunLimits run
-    → Between (record { 0 = 0 }) f run.grams 60 lo hi l → Between 0 h run.rests 60 lo hi m → (j : ℕ) → hi ≤ j → j < 60
-    → ((get_or l j (record { 0 = 0 })).0 ≤ 5000000000000000) × (get_or m j 0 < 1000000000)
-slot_small lim p s j a b = (rw (above_grams p j a) (lim.grams_most j b), rw (s.above j a) (lim.rest_below j b))

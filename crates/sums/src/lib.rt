@@ -9,11 +9,13 @@ use inventory::{Record, Run};
 use units::VehicleKm;
 
 // Raises the 20 sums of a record's fuel by what the record brings.
+#[tactic(auto, using(kilometres::proofs::Made::fuel_most, crate::proofs::Slots::factor_most), unfolding(inventory::specs::Records::vehicle_km))]
 pub fn add_sums(run: &mut Run, rec: Record)
     requires record_limits { RecordLimits rec }
     requires run_limits { RunLimits (of_sums run.old.x run.old.grams run.old.rests) }
     ensures { run.new ≡ with_sums run.old rec }
 {
+    run.shaped();
     let fuel = classes::fuel_of(rec.class);
     let shares = rec.shares;
     let k = VehicleKm(rec.vehicles * rec.km);
