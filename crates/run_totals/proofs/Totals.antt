@@ -1,19 +1,19 @@
 -- The total of four kinds, and the totals of a run. Assumes nothing.
 use mathlib.Core.Path.{◌≡◌, refl, ap, ◌∙◌}
-use mathlib.Core.List.{List}
 use Prim.Native.Nat.{ℕ, ◌+◌, ◌*◌, ◌-◌, ◌/◌, ◌≤◌, ◌<◌}
 use native.Mathlib.Omega.{arith}
-use lib.ListN.{get_or}
+use lib.ListN.{length}
 use Rattle.units.specs.declared.Grams.{Grams}
-use Rattle.units.proofs.Between.{Between, between}
+use Rattle.units.proofs.Between.{Between, between_none, between_more, between}
 use Rattle.inventory.specs.declared.Amount.{Amount}
 use Rattle.inventory.specs.declared.Run.{Run}
-use Rattle.inventory.specs.Order.{grams_in, rest_in, sum_at, exact_total}
+use Rattle.inventory.specs.Amounts.{sum_amount, with_total}
+use Rattle.inventory.specs.Order.{in_billionths, grams_in, rest_in}
 use Rattle.inventory.specs.Adding.{billionths, total_made, total_grams_made, total_rest_made, with_totals}
-use Rattle.inventory.specs.Limits.{AmountLimits, RunLimits}
+use Rattle.inventory.specs.Limits.{AmountLimits, SumLimits, RunLimits}
 use Rattle.inventory.proofs.Amounts.{value, rest_small}
 use Rattle.inventory.proofs.Stored.{exact_at, stored_grams, stored_rest}
-use Rattle.run_totals.specs.Between.{SumLimits, of_amounts, KeptOutside, Made}
+use Rattle.run_totals.specs.Between.{of_amounts, KeptOutside}
 
 -- an amount by its parts
 amount : {g h r s : ℕ} → g ≡ h → r ≡ s → ◌≡◌ {A = Amount} (record { grams = record { 0 = g }; rest = r }) (record { grams = record { 0 = h }; rest = s })
@@ -32,7 +32,7 @@ pub one_more : (m n : ℕ) → billionths ((billionths m).grams.0 * 1000000000 +
 one_more m n = rw (value m)
 
 -- an amount of so many billionths, at most 1.6 × 10^16 g
-pub amount_at : (a : Amount) (n : ℕ) → a ≡ billionths n → n ≤ 16000000000000000000000000 → AmountLimits a.grams a.rest
+pub amount_at : (a : Amount) (n : ℕ) → a ≡ billionths n → n ≤ 16000000000000000000000000 → AmountLimits a
 amount_at a n e h = rw e (record { grams = omega (arith, value n); rest = rest_small n })
 
 -- a third and a fourth amount to two
@@ -49,54 +49,45 @@ unfolding total_made
 total_made_lem run k j t e h = h ∙ ap billionths (exact_at run k j e)
 
 -- a sum of a run in order
-pub sum_limits : (run : Run) → RunLimits run → (i j : ℕ) → i < 60 → j < 60 → SumLimits (get_or run.grams i (record { 0 = 0 })) (rest_in run j)
-sum_limits run lim i j h l = record { grams = lim.grams_most i h; rest = lim.rest_below j l }
+pub sum_small : (run : Run) → RunLimits (of_amounts run.grams run.rests run.total_grams run.total_rests) → (j : ℕ) → j < 60 → SumLimits (sum_amount run j)
+sum_small run lim j h = record { grams = lim.grams_most j h; rest = lim.rest_below j h }
 
 -- where all totals are made, none is outside
 pub none_outside : (run : Run) → KeptOutside run 0 15
 none_outside run = record { kept = λ k h o. absurd (o (omega arith) h) }
 
--- of two runs with the same sums the totals made are the same
-pub made_of : (run : Run) (total_grams : List Grams) (total_rests : List ℕ) → Made (of_amounts run.grams run.rests total_grams total_rests) (with_totals run).total_grams (with_totals run).total_rests
-unfolding with_totals total_made exact_total sum_at
-made_of run total_grams total_rests = record { grams = refl; rests = refl }
+-- the limits of a run, by its amounts alone
+pub amounts_limits : (run : Run) → RunLimits run → RunLimits (of_amounts run.grams run.rests run.total_grams run.total_rests)
+amounts_limits run lim =
+    record { few = omega arith; x_most_lem = λ i h. omega arith; rest_below = lim.rest_below; grams_most = lim.grams_most; km_most = λ fuel h. omega arith }
 
--- the totals of the sums are stored from one place to another, and were outside
-pub made : (run : Run) (total_grams : List Grams) (total_rests : List ℕ) (from to k : ℕ) → KeptOutside run from to → to ≤ k
-    → Between (record { 0 = 0 }) (total_grams_made run) run.total_grams 15 from k total_grams
-    → Between 0 (total_rest_made run) run.total_rests 15 from k total_rests
-    → Made run total_grams total_rests
-unfolding with_totals
-made run total_grams total_rests from to k out h p q =
-    record {
-      grams = between p (λ i l o. stored_grams run i (out.kept i l (λ a b. o a (omega arith))));
-      rests = between q (λ i l o. stored_rest run i (out.kept i l (λ a b. o a (omega arith))));
-    }
+-- the totals are made from one place up to another, and the run is else as it came
+pub record MadeTo (old : Run) (from k : ℕ) (now : Run) : Type 0 where
+  pub others : record now { total_grams = old.total_grams; total_rests = old.total_rests } ≡ old
+  pub grams : Between (record { 0 = 0 }) (total_grams_made old) old.total_grams 15 from k now.total_grams
+  pub rests : Between 0 (total_rest_made old) old.total_rests 15 from k now.total_rests
 
--- the limits and the totals of a run, by its amounts alone
-module _ (run : Run) where
-  pub amounts_limits : (total_grams : List Grams) (total_rests : List ℕ) → RunLimits run → RunLimits (of_amounts run.grams run.rests total_grams total_rests)
-  amounts_limits total_grams total_rests lim =
-      record { few = omega arith; x_most_lem = λ i h. omega arith; rest_below = lim.rest_below; grams_most = lim.grams_most; km_most = λ fuel h. omega arith }
+module _ (old : Run) (from : ℕ) where
+  pub made_none : length old.total_grams ≡ 15 → length old.total_rests ≡ 15 → MadeTo old from from old
+  made_none g r = record { others = refl; grams = between_none _ _ _ _ _ _ g refl; rests = between_none _ _ _ _ _ _ r refl }
 
-  pub amounts_kept : (from to : ℕ) → KeptOutside run from to → KeptOutside (of_amounts run.grams run.rests run.total_grams run.total_rests) from to
-  unfolding exact_total sum_at
-  amounts_kept from to out = record { kept = out.kept }
+  -- the sums are those of the old run
+  pub sums_kept : {k : ℕ} {now : Run} → MadeTo old from k now → (j : ℕ) → in_billionths (sum_amount now j) ≡ in_billionths (sum_amount old j)
+  sums_kept i j = ap (λ (r : Run). in_billionths (sum_amount r j)) i.others
 
--- a run with the totals that are made of its sums
-pub with_made : (run : Run) (before-grams : List Grams) (before-rests : List ℕ) (total_grams : List Grams) (total_rests : List ℕ)
-    → Made (of_amounts run.grams run.rests before-grams before-rests) total_grams total_rests
-    → ◌≡◌ {A = Run}
-    (record {
-      trip = run.trip;
-      x = run.x;
-      count = run.count;
-      km = run.km;
-      grams = run.grams;
-      rests = run.rests;
-      total_grams = total_grams;
-      total_rests = total_rests;
-    })
-    (with_totals run)
-unfolding with_totals total_made exact_total sum_at
-with_made run before-grams before-rests total_grams total_rests m = rw (m.grams, m.rests)
+  pub made_more : {k : ℕ} {now : Run} → MadeTo old from k now → from ≤ k → k < 15 → (t : Amount) → t ≡ total_made old k → MadeTo old from (k + 1) (with_total now k t)
+  made_more {k} {now} i h l t e =
+      record {
+        others = i.others;
+        grams = between_more k (k + 1) _ i.grams refl refl h l (ap (λ a. a.grams) e);
+        rests = between_more k (k + 1) _ i.rests refl refl h l (ap (λ a. a.rest) e);
+      }
+
+  -- all that were not right are made
+  pub all_made : {k to : ℕ} {now : Run} → KeptOutside old from to → to ≤ k → MadeTo old from k now → now ≡ with_totals old
+  unfolding with_totals
+  all_made {k} {to} {now} out h i =
+      let g : now.total_grams ≡ (with_totals old).total_grams = between i.grams (λ j l o. stored_grams old j (out.kept j l (λ a b. o a (omega arith)))) in
+      let r : now.total_rests ≡ (with_totals old).total_rests = between i.rests (λ j l o. stored_rest old j (out.kept j l (λ a b. o a (omega arith)))) in
+      ap (λ (r : Run). record r { total_grams = now.total_grams; total_rests = now.total_rests }) i.others
+      ∙ (λ k. record old { total_grams = g k; total_rests = r k })

@@ -11,6 +11,7 @@ use inventory::{Amount, Run};
 use units::Grams;
 
 // Two amounts in one. The carry without a branch: s + 73,741,824 reaches 2^30 where s reaches 10^9.
+#[tactic(auto, using(crate::proofs::Totals::carried))]
 pub fn both(a: Amount, b: Amount) -> Amount
     requires { AmountLimits a × AmountLimits b }
     ensures { result ≡ billionths (in_billionths a + in_billionths b) }
@@ -24,6 +25,7 @@ pub fn both(a: Amount, b: Amount) -> Amount
 }
 
 // The exact sum of four kinds, one after another: the compiler would else read two neighbours by one load, which waits until both are stored.
+#[tactic(auto, using(crate::proofs::Totals::amount_at, crate::proofs::Totals::three_in_one))]
 fn total_of(a: Amount, b: Amount, c: Amount, d: Amount) -> Amount
     requires { SumLimits a × SumLimits b × SumLimits c × SumLimits d }
     ensures { result ≡ billionths (in_billionths a + in_billionths b + in_billionths c + in_billionths d) }
@@ -37,6 +39,7 @@ pub fn make_totals(run: &mut Run, from: usize, to: usize)
     requires from_le_to { (from ≤ to) × (to ≤ 15) × KeptOutside run.old from to }
     ensures { run.new ≡ with_totals run.old }
 {
+    run.shaped();
     for k in from..to {
         let j = k * 4;
         let total = total_of(run.sum(j), run.sum(j + 1), run.sum(j + 2), run.sum(j + 3));
