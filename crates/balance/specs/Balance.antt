@@ -1,16 +1,16 @@
 -- The balance against sold fuel (SPECIFICATION, "Balance").
 -- Assumes nothing.
-use Rattle.std.specs.Prelude.{ℕ, ◌*◌, ◌-◌, ◌≡◌, cond, List, [], ◌∷◌, ◌++◌, eqb, ltb}
+use Rattle.std.specs.Prelude.{ℕ, ◌*◌, ◌-◌, ◌≡◌, cond, List, [], ◌∷◌, ◌++◌, eqb, ltb, Option, Some, None, Result, Ok, Err}
 use Rattle.units.specs.Grounds.{Ground, ground, first_fit, outside}
 use Rattle.units.specs.Rounding.{half_up}
+use Rattle.units.specs.declared.Refusal.{Refusal}
 use Rattle.units.specs.Refusals.{refusal_number}
 use Rattle.units.specs.Fractions.{Fraction, over, plus, WithinDistance}
 use Rattle.long_division.specs.declared.Ratio.{Ratio}
 use Rattle.long_division.specs.Digits.{digits_worked, ratio_of}
 use Rattle.inventory.specs.declared.Run.{Run}
 use Rattle.inventory.specs.Printed.{printed_total, total_grounds}
-use Rattle.balance.specs.declared.Balanced.{Balanced}
-use Rattle.balance.specs.declared.Balanced.TheVariants.{Given, Refused}
+use Rattle.balance.specs.declared.BalanceFigures.{BalanceFigures}
 
 -- F, the printed FC total of a fuel, which counts from 0 here
 abbrev pub printed_fuel : Run → ℕ → ℕ
@@ -20,9 +20,9 @@ printed_fuel run fuel = printed_total run fuel 4
 unfoldable pub balance_ratio : ℕ → ℕ → ℕ
 balance_ratio s f = half_up (s * 1000000000000) f
 
--- k from 500,000 to 1,500,000 with the digits worked, and 0 and 0 for any other k: what the inner division gives
-abbrev pub ratio_in_range : ℕ → ℕ → Ratio
-ratio_in_range s f = cond (outside 500000 1500000 (balance_ratio s f)) (record { k = 0; digits = 0 }) (ratio_of s f)
+-- k from 500,000 to 1,500,000 with the digits worked, and none for any other k: what the inner division gives
+abbrev pub ratio_in_range : ℕ → ℕ → Option Ratio
+ratio_in_range s f = cond (outside 500000 1500000 (balance_ratio s f)) None (Some (ratio_of s f))
 
 -- balanced total = printed total × k / 1,000,000, half up
 unfoldable pub balanced_total : ℕ → ℕ → ℕ
@@ -44,9 +44,9 @@ pub record BalanceAnswer : Type 0 where
   pub grams : ℕ
 
 -- the number and the values of each case
-unfoldable pub balanced_answer : Balanced → BalanceAnswer
-balanced_answer (Given b) = record { number = 0; k = b.k; digits = b.digits; grams = b.grams.0 }
-balanced_answer (Refused r) = record { number = refusal_number r; k = 0; digits = 0; grams = 0 }
+unfoldable pub balanced_answer : Result BalanceFigures Refusal → BalanceAnswer
+balanced_answer (Ok b) = record { number = 0; k = b.k; digits = b.digits; grams = b.grams.0 }
+balanced_answer (Err r) = record { number = refusal_number r; k = 0; digits = 0; grams = 0 }
 
 unfoldable pub balance_number : Run → ℕ → ℕ → ℕ → ℕ
 balance_number run fuel quantity s = first_fit (balance_grounds run fuel quantity s)
