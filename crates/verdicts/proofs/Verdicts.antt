@@ -1,12 +1,12 @@
 -- The first ground that fits a head, a record and an add, test by test. Assumes nothing.
 use mathlib.Core.Path.{◌≡◌}
-use mathlib.Core.Bool.{true, false, ◌||◌}
-use Prim.Native.Nat.{◌+◌, ◌*◌, ◌≤◌, ◌<◌}
-use lib.Dec.{ltb}
-use borrow.Author.Tests.{lt-ltb, le-ltb, eq-eqb, ne_eqb}
+use mathlib.Core.Bool.{true, false}
+use Prim.Native.Nat.{ℕ, ◌*◌, ◌≤◌, ◌<◌}
+use native.Mathlib.Nat.{mul-le-mul}
+use borrow.Author.Tests.{lt-ltb, le-ltb}
 use Rattle.units.specs.Grounds.{first_fit, outside}
 use Rattle.units.specs.Lists.{all_below}
-use Rattle.units.proofs.Tests.{or_true}
+use Rattle.units.proofs.Tests.{inside_high}
 use Rattle.calendar.specs.Periods.{period_grounds}
 use Rattle.inventory.specs.declared.Head.{Head}
 use Rattle.inventory.specs.declared.Record.{Record}
@@ -27,46 +27,9 @@ module _ (head : Head) where
   unfolding head_grounds first_fit temperatures_wrong
   by_period h t = rw (h, t)
 
--- ---- shares and speeds
+-- ---- a record
 
 module _ (rec : Record) where
-  pub share_over : (ltb 100 rec.shares.urban || ltb 100 rec.shares.rural || ltb 100 rec.shares.highway) ≡ true → true ≡ shares_wrong rec
-  unfolding shares_wrong
-  share_over h = rw h
-
-  pub urban_over : 100 < rec.shares.urban → true ≡ shares_wrong rec
-  urban_over h = share_over (rw (lt-ltb 100 rec.shares.urban h))
-
-  pub rural_over : 100 < rec.shares.rural → true ≡ shares_wrong rec
-  rural_over h = share_over (rw (lt-ltb 100 rec.shares.rural h, or_true (ltb 100 rec.shares.urban)))
-
-  pub highway_over : 100 < rec.shares.highway → true ≡ shares_wrong rec
-  highway_over h = share_over (rw (lt-ltb 100 rec.shares.highway h) (or_true (ltb 100 rec.shares.urban || ltb 100 rec.shares.rural)))
-
-  module _ (u : rec.shares.urban ≤ 100) (r : rec.shares.rural ≤ 100) (w : rec.shares.highway ≤ 100) where
-    pub sum_right : rec.shares.urban + rec.shares.rural + rec.shares.highway ≡ 100 → false ≡ shares_wrong rec
-    unfolding shares_wrong
-    sum_right e = rw (le-ltb 100 rec.shares.urban u, le-ltb 100 rec.shares.rural r, le-ltb 100 rec.shares.highway w, eq-eqb _ 100 e)
-
-    pub sum_wrong : (rec.shares.urban + rec.shares.rural + rec.shares.highway ≡ 100 → ⊥) → true ≡ shares_wrong rec
-    unfolding shares_wrong
-    sum_wrong e = rw (le-ltb 100 rec.shares.urban u, le-ltb 100 rec.shares.rural r, le-ltb 100 rec.shares.highway w, ne_eqb _ 100 e)
-
-  pub urban_wrong : outside 10 130 rec.speeds.urban.0 ≡ true → true ≡ speeds_wrong rec
-  unfolding speeds_wrong
-  urban_wrong h = rw h
-
-  pub rural_wrong : outside 10 130 rec.speeds.rural.0 ≡ true → true ≡ speeds_wrong rec
-  unfolding speeds_wrong
-  rural_wrong h = rw (h, or_true (outside 10 130 rec.speeds.urban.0))
-
-  pub highway_last : outside 10 130 rec.speeds.urban.0 ≡ false → outside 10 130 rec.speeds.rural.0 ≡ false
-      → outside 10 130 rec.speeds.highway.0 ≡ speeds_wrong rec
-  unfolding speeds_wrong
-  highway_last u r = rw (u, r)
-
-  -- ---- a record
-
   pub bad_class : outside 1 7 rec.class ≡ true → 3 ≡ first_fit (record_grounds rec)
   unfolding first_fit record_grounds
   bad_class h = rw h
@@ -99,3 +62,7 @@ module _ (rec : Record) where
             pub good_record : speeds_wrong rec ≡ false → 0 ≡ first_fit (record_grounds rec)
             unfolding first_fit record_grounds vehicle_km
             good_record h = rw (class, vehicles, km, le-ltb _ _ distance, shares, h)
+
+-- K stays in 64 bits
+pub distance_fits : (v k : ℕ) → outside 1 1000000 v ≡ false → outside 1 999999 k ≡ false → v * k ≤ 999999000000
+distance_fits v k a b = mul-le-mul (inside_high 1 1000000 v a) (inside_high 1 999999 k b)

@@ -23,6 +23,7 @@ fn temperatures_ok(head: &Head) -> bool
 }
 
 // Whether a head is refused: 1, then 2, then by its period.
+#[tactic(auto, using(crate::proofs::Verdicts::bad_trip, crate::proofs::Verdicts::bad_temperature, crate::proofs::Verdicts::by_period), unfolding(units::specs::Refusals::answer_number, units::specs::Refusals::refusal_number))]
 pub fn head_verdict(head: &Head) -> Result<(), Refusal>
     ensures { answer_number result ≡ first_fit (head_grounds head.now) }
 {
@@ -36,6 +37,7 @@ pub fn head_verdict(head: &Head) -> Result<(), Refusal>
 }
 
 // Whether a share is over 100, or the sum is not 100.
+#[tactic(auto, unfolding(inventory::specs::Records::shares_wrong))]
 fn shares_wrong(rec: &Record) -> bool
     ensures { result ≡ shares_wrong rec.now }
 {
@@ -47,6 +49,7 @@ fn shares_wrong(rec: &Record) -> bool
 }
 
 // Whether a speed is out of range, also where its share is 0.
+#[tactic(auto, unfolding(inventory::specs::Records::speeds_wrong))]
 fn speeds_wrong(rec: &Record) -> bool
     ensures { result ≡ speeds_wrong rec.now }
 {
@@ -57,6 +60,7 @@ fn speeds_wrong(rec: &Record) -> bool
 }
 
 // Whether a record is refused by itself: 3 to 8.
+#[tactic(auto, using(crate::proofs::Verdicts::bad_class, crate::proofs::Verdicts::bad_vehicles, crate::proofs::Verdicts::bad_km, crate::proofs::Verdicts::bad_distance, crate::proofs::Verdicts::bad_shares, crate::proofs::Verdicts::bad_speeds, crate::proofs::Verdicts::good_record, crate::proofs::Verdicts::distance_fits), unfolding(units::specs::Refusals::answer_number, units::specs::Refusals::refusal_number))]
 pub fn record_verdict(rec: &Record) -> Result<(), Refusal>
     ensures { answer_number result ≡ first_fit (record_grounds rec.now) }
 {
