@@ -1,57 +1,51 @@
-// The test of a run's order.
+// The test of a run's order, wherever its numbers lie.
 #![tactic(auto)]
 
-ghost use Rattle.std.specs.Prelude.{◌≡◌, ◌≤◌};
+ghost use Rattle.std.specs.Prelude.{◌≡◌, ◌<◌, ◌≤◌, ◌&&◌, not, leb};
 ghost use Rattle.units.specs.Lists.{all_below};
+ghost use Rattle.units.specs.Grounds.{outside};
 ghost use Rattle.classes.specs.Classes.{x_count};
-ghost use Rattle.inventory.specs.Order.{in_order, x_ok, km_ok};
+ghost use Rattle.inventory.specs.Order.{in_order, x_ok, km_ok, sums_ok, same_head, record_limit};
 
-use inventory::Run;
+use inventory::RunNumbers;
 
-fn xs_ok(run: &Run) -> bool
-    ensures { result ≡ all_below (x_ok run.now) x_count }
+// Whether L and each X are in range.
+pub fn head_ok<R: RunNumbers>(run: &R) -> bool
+    ensures { result ≡ (not (outside 10 200 (R.run run.now).trip) && all_below (x_ok (R.run run.now)) x_count) }
 {
-    let mut k: usize = 0;
-    while k < 16 {
-        if 4900000000 < run.x[k] {
-            return false;
-        }
-        k += 1;
-    }
-    true
+    !units::is_outside(10, 200, run.trip()) && (0..16).all(|i| run.x(i) <= 4900000000)
 }
 
-fn kms_ok(run: &Run) -> bool
-    requires { run.now.count ≤ 5000 }
-    ensures { result ≡ all_below (km_ok run.now) 3 }
+fn kms_ok<R: RunNumbers>(run: &R) -> bool
+    requires { (R.run run.now).count ≤ 5000 }
+    ensures { result ≡ all_below (km_ok (R.run run.now)) 3 }
 {
-    let limit = 1000000000 * run.count;
-    let mut k: usize = 0;
-    while k < 3 {
-        let km = run.km[k];
-        if limit < km.0 {
-            return false;
-        }
-        k += 1;
-    }
-    true
+    let limit = 1000000000 * run.count();
+    (0..3).all(|fuel| run.km(fuel) <= limit)
+}
+
+// Whether the count, the sums, the totals and the kilometres are in order.
+pub fn amounts_ok<R: RunNumbers>(run: &R) -> bool
+    ensures { result ≡ (leb (R.run run.now).count record_limit && sums_ok (R.run run.now) && all_below (km_ok (R.run run.now)) 3) }
+{
+    run.count() <= 5000 && run_sums::sums_ok(run) && kms_ok(run)
 }
 
 // Whether the run is in order.
-pub fn in_order(run: &Run) -> bool
-    ensures { result ≡ in_order run.now }
+pub fn in_order<R: RunNumbers>(run: &R) -> bool
+    ensures { result ≡ in_order (R.run run.now) }
 {
-    if units::is_outside(10, 200, run.trip) {
-        return false;
-    }
-    if !xs_ok(run) {
-        return false;
-    }
-    if 5000 < run.count {
-        return false;
-    }
-    if !run_sums::sums_ok(run) {
-        return false;
-    }
-    kms_ok(run)
+    head_ok(run) && amounts_ok(run)
+}
+
+// Whether two runs have the same L and the same X.
+pub fn same_head<A: RunNumbers, B: RunNumbers>(a: &A, b: &B) -> bool
+    ensures { result ≡ same_head (A.run a.now) (B.run b.now) }
+{
+    a.trip() == b.trip()
+        && (0..16).all(
+            |i|
+                requires { i < x_count }
+            { a.x(i) == b.x(i) },
+        )
 }

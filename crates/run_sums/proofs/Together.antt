@@ -19,62 +19,52 @@ le_or_l a b = omega (arith, or_add_and a b, and_le_r a b)
 le_or_r : (a b : ℕ) → b ≤ bit_or a b
 le_or_r a b = rw (or_comm a b) (le_or_l b a)
 
--- f 0, .., f (k - 1) are at most `any`, which a loop makes of them by `or`
+-- below k each has a value that is at most `bits`, which a loop makes of them by `or`
+abbrev Some_within : (ℕ → ℕ → Type 0) → ℕ → ℕ → Type 0
+Some_within P k bits = (i : ℕ) → i < k → (x : ℕ) × P i x × (x ≤ bits)
+
+pub or_more : (P : ℕ → ℕ → Type 0) (k bits y : ℕ) → Some_within P k bits → P k y → Some_within P (k + 1) (bit_or bits y)
+or_more P k bits y u p i l =
+    ⊎_elim (λ (q : i ≡ k). rw q (y, p, le_or_r bits y)) (λ (q : i < k). let v = u i q in (v.0, v.1, omega (arith, v.2, le_or_l bits y)))
+    (eq-or-lt_of_le (omega arith))
+
+-- f 0, .., f (k - 1) are at most `any`
 abbrev pub Within : (ℕ → ℕ) → ℕ → ℕ → Type 0
 Within f k any = (j : ℕ) → j < k → f j ≤ any
 
-pub within_none : (f : ℕ → ℕ) (any : ℕ) → Within f 0 any
-within_none f any j h = absurd (omega arith)
+pub within : (f : ℕ → ℕ) (P : ℕ → ℕ → Type 0) (k bits : ℕ) → ((i x : ℕ) → P i x → x ≡ f i) → Some_within P k bits → Within f k bits
+within f P k bits e u j l = let v = u j l in omega (arith, v.2, e j v.0 v.1)
 
-pub within_more : (f : ℕ → ℕ) (k any : ℕ) → Within f k any → Within f (k + 1) (bit_or any (f k))
-within_more f k any u j l =
-    let a : any ≤ bit_or any (f k) = le_or_l any (f k) in
-    let b : f k ≤ bit_or any (f k) = le_or_r any (f k) in
-    ⊎_elim (λ (q : j ≡ k). rw q b) (λ (q : j < k). omega (arith, u j q, a)) (eq-or-lt_of_le (omega arith))
-
-pub within_or : (f : ℕ → ℕ) (k any more : ℕ) → Within f k any → Within f k (bit_or any more)
-within_or f k any more u j l = omega (arith, u j l, le_or_l any more)
-
-abbrev pub mark_in : Run → ℕ → ℕ
-mark_in run j = rest_mark (rest_in run j)
-
-module _ (run : Run) (k grams : ℕ) (u : Within (grams_in run) k grams) (h : 60 ≤ k) where
+module _ (run : Run) (grams : ℕ) (u : Within (grams_in run) 60 grams) where
   -- the grams are below the limit together, and every mark below 2^29
-  pub together : (marks : ℕ) → Within (mark_in run) k marks → marks < 536870912 → grams < 1000000000000 * run.count → true ≡ all_below (sum_ok run) 60
-  together marks v z y =
-      sym (all (sum_ok run) 60 (λ j l. let p = u j (omega arith) in let q = v j (omega arith) in sum_good _ _ _ (omega (arith, q)) (omega (arith, p, q))))
+  pub together : (marks : ℕ) → Within (λ j. rest_mark (rest_in run j)) 60 marks → marks < 536870912 → grams < 1000000000000 * run.count → true ≡ all_below (sum_ok run) 60
+  together marks v z y = sym (all (sum_ok run) 60 (λ j l. let p = u j l in let q = v j l in sum_good _ _ _ (omega (arith, q)) (omega (arith, p, q))))
 
 -- no number of the sums and the totals has a bit
-module _ (run : Run) (k n grams rests : ℕ) (u : Within (grams_in run) k grams) (v : Within (rest_in run) k rests) (h : 60 ≤ k)
-    (t : Within (total_grams_in run) n grams) (w : Within (total_rest_in run) n rests) (l : 15 ≤ n) (y : grams ≡ 0) (z : rests ≡ 0) where
+module _ (run : Run) (a b c d : ℕ) (u : Within (grams_in run) 60 a) (v : Within (rest_in run) 60 b)
+    (t : Within (total_grams_in run) 15 c) (w : Within (total_rest_in run) 15 d) (z : bit_or (bit_or a b) (bit_or c d) ≡ 0) where
+  nothing : (a ≡ 0) × (b ≡ 0) × (c ≡ 0) × (d ≡ 0)
+  nothing =
+      let s = le_or_l (bit_or a b) (bit_or c d) in
+      let r = le_or_r (bit_or a b) (bit_or c d) in
+      (omega (arith, s, le_or_l a b), omega (arith, s, le_or_r a b), omega (arith, r, le_or_l c d), omega (arith, r, le_or_r c d))
+
   none_sum : (j : ℕ) → j < 60 → sum_at run j ≡ 0
   unfolding sum_at
-  none_sum j b = omega (arith, u j (omega arith), v j (omega arith))
+  none_sum j h = omega (arith, u j h, v j h, nothing)
 
   none_exact : (fuel quantity : ℕ) → fuel < 3 → quantity < 5 → exact_total run fuel quantity ≡ 0
   unfolding exact_total
-  none_exact fuel quantity a b =
+  none_exact fuel quantity f q =
       omega (arith, none_sum (place fuel quantity 0) (omega arith), none_sum (place fuel quantity 1) (omega arith), none_sum (place fuel quantity 2) (omega arith), none_sum (place fuel quantity 3) (omega arith))
 
   no_sums : all_below (sum_ok run) 60 ≡ true
-  no_sums = all (sum_ok run) 60 (λ j b. let p = u j (omega arith) in let q = v j (omega arith) in sum_good _ _ _ (omega (arith, q)) (omega (arith, p, q)))
+  no_sums = all (sum_ok run) 60 (λ j h. sum_good _ _ _ (omega (arith, v j h, nothing)) (omega (arith, u j h, v j h, nothing)))
 
   no_totals : all_below (total_ok run) 15 ≡ true
   no_totals =
       all (total_ok run) 15
-      (λ i b.
-      let p = t i (omega arith) in
-      let q = w i (omega arith) in
-      let e = none_exact (i / 5) (i % 5) (omega arith) (omega arith) in
-      amount_good _ _ _ (omega (arith, q)) (omega (arith, p, q, e)))
+      (λ k h. amount_good _ _ _ (omega (arith, w k h, nothing)) (omega (arith, t k h, w k h, nothing, none_exact (k / 5) (k % 5) (omega arith) (omega arith))))
 
   pub all_none : true ≡ sums_ok run
   all_none = rw (no_sums, no_totals)
-
--- the sums decide, then the totals
-module _ (run : Run) where
-  pub bad_sums : all_below (sum_ok run) 60 ≡ false → false ≡ sums_ok run
-  bad_sums e = rw e
-
-  pub then_totals : all_below (sum_ok run) 60 ≡ true → (b : Bool) → b ≡ all_below (total_ok run) 15 → b ≡ sums_ok run
-  then_totals e b t = rw e t

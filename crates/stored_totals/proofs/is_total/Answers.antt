@@ -1,9 +1,14 @@
 -- `stored_totals::is_total` meets its contract. Assumes nothing.
-use mathlib.Core.Path.{ap, ◌∙◌}
-use Prim.Native.Nat.{◌+◌}
-use Rattle.stored_totals.specs.Carries.{rest_ok}
-use Rattle.stored_totals.proofs.Carries.{total_by}
+use Rattle.std.proofs.Common.{sym, arith}
+use Rattle.inventory.proofs.Order.{amount_bad}
+use Rattle.stored_totals.proofs.Carries.{amount_by}
 use Rattle.stored_totals.proofs.is_total.Goals as goal
 
+pub returns-in_default : goal.returns-in_default
+returns-in_default c = sym (amount_bad _ _ _ (λ m e. omega (arith, c.in_default.ensures)))
+
+pub returns-then-carry-gt3 : goal.returns-then-carry-gt3
+returns-then-carry-gt3 c = sym (amount_bad _ _ _ (λ m e. omega (arith, c.in-Some.ensures)))
+
 pub returns : goal.returns
-returns c = let a = c.args in c.rest_ok.ensures ∙ ap (λ n. rest_ok n a.total.rest (a.a.rest + a.b.rest + a.c.rest + a.d.rest)) c.carry_of.ensures ∙ total_by a.a.grams.0 a.b.grams.0 a.c.grams.0 a.d.grams.0 a.a.rest a.b.rest a.c.rest a.d.rest a.total.grams.0 a.total.rest c.requires.0.rest c.requires.1.rest c.requires.2.rest c.requires.3.rest
+returns c = amount_by _ _ _ _ _ (omega arith) (λ e. omega (arith, c.in-Some.ensures)) (λ e. omega (arith, c.in-Some.ensures))
