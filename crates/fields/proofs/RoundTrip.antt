@@ -11,7 +11,7 @@ use lib.Dec.{ltb, eqb}
 use borrow.Author.Tests.{ltb-true, eqb-true, eqb-false, lt-ltb, ne_eqb, not-true}
 use Rattle.fields.specs.Field.{State, blank, signed, digits, wrong, is_digit, step, scan, said, parse}
 use Rattle.text.specs.Render.{glyph_of, pad, render, render_minus}
-use Rattle.fields.specs.declared.Field.TheVariants.{Plus, Minus, Bad}
+use Rattle.std.specs.Prelude.{pos, negsuc, neg_ℤ, Some, None}
 use Rattle.fields.proofs.Read.{and_both, digit_in, digit_back, scan_wrong}
 use Rattle.text.proofs.Write.{length_pad}
 
@@ -83,7 +83,7 @@ padded (suc w) n h k =
     true_false z = let y : ◌≡◌ {A = ℕ} 0 1 = cc in omega arith
 
 -- a number's rendering is taken, and says the number
-pub taken : (w n : ℕ) → n < 10 ^ suc w → n < 1000000000 → parse (render (suc w) n) ≡ Plus n
+pub taken : (w n : ℕ) → n < 10 ^ suc w → n < 1000000000 → parse (render (suc w) n) ≡ Some (pos n)
 unfolding render parse
 taken w n h k =
     let h₂ : n < 10 * 10 ^ w = rw pow-succ' at h in
@@ -104,7 +104,7 @@ signed_minus (suc w) n h k =
     scan_snoc blank (before true (n / 10)) (before true n) (render_minus (suc w) (n / 10)) (48 + n % 10) ih (rw e (last_digit true n (λ _. q) k)))
 
 -- the rendering of a number below 0 is taken, and says the number
-pub taken_minus : (w n : ℕ) → 0 < n → n < 10 ^ w → n < 1000000000 → parse (render_minus (suc w) n) ≡ Minus n
+pub taken_minus : (w n : ℕ) → 0 < n → n < 10 ^ w → n < 1000000000 → parse (render_minus (suc w) n) ≡ Some (neg_ℤ (pos n))
 unfolding before parse
 taken_minus w n p h k = let e : scan blank (render_minus (suc w) n) ≡ digits true n = signed_minus w n h k ∙ rw (ne_eqb n 0 (λ e. omega arith)) in ap said e
 
@@ -187,28 +187,30 @@ scan_is s xs [] h = rw append-nil h
 scan_is s xs (y ∷ ys) h = rw append_assoc at (scan_is (step s y) (xs ++ (y ∷ [])) ys (step_is s xs y h))
 
 -- what a field says, of the bytes that led there
-said_is : (s : State) (xs : List ℕ) → Is s xs → (n : ℕ) → said s ≡ Plus n → (xs ≡ render (length xs) n) × (n < 10 ^ length xs)
+said_is : (s : State) (xs : List ℕ) → Is s xs → (n : ℕ) → said s ≡ Some (pos n) → (xs ≡ render (length xs) n) × (n < 10 ^ length xs)
 unfolding Is
 said_is blank xs h n e = let z : ◌≡◌ {A = ℕ} 0 1 = cc in absurd (omega arith)
 said_is signed xs h n e = let z : ◌≡◌ {A = ℕ} 0 1 = cc in absurd (omega arith)
 said_is (digits false m) xs h n e = let q : m ≡ n = cc in rw q at h
-said_is (digits true m) xs h n e = let z : ◌≡◌ {A = ℕ} 0 1 = cc in absurd (omega arith)
+said_is (digits true zero) xs h n e = absurd (omega (arith, h.0))
+said_is (digits true (suc m)) xs h n e = let z : ◌≡◌ {A = ℕ} 0 1 = cc in absurd (omega arith)
 said_is wrong xs h n e = let z : ◌≡◌ {A = ℕ} 0 1 = cc in absurd (omega arith)
 
-said_is_minus : (s : State) (xs : List ℕ) → Is s xs → (n : ℕ) → said s ≡ Minus n → (0 < n) × (xs ≡ render_minus (length xs) n)
+said_is_minus : (s : State) (xs : List ℕ) → Is s xs → (n : ℕ) → said s ≡ Some (negsuc n) → xs ≡ render_minus (length xs) (suc n)
 unfolding Is
 said_is_minus blank xs h n e = let z : ◌≡◌ {A = ℕ} 0 1 = cc in absurd (omega arith)
 said_is_minus signed xs h n e = let z : ◌≡◌ {A = ℕ} 0 1 = cc in absurd (omega arith)
 said_is_minus (digits false m) xs h n e = let z : ◌≡◌ {A = ℕ} 0 1 = cc in absurd (omega arith)
-said_is_minus (digits true m) xs h n e = let q : m ≡ n = cc in rw q at h
+said_is_minus (digits true zero) xs h n e = absurd (omega (arith, h.0))
+said_is_minus (digits true (suc m)) xs h n e = let q : m ≡ n = cc in rw q at h.1
 said_is_minus wrong xs h n e = let z : ◌≡◌ {A = ℕ} 0 1 = cc in absurd (omega arith)
 
 -- a field that says a number is the rendering of that number
-pub only : (f : List ℕ) (n : ℕ) → parse f ≡ Plus n → (f ≡ render (length f) n) × (n < 10 ^ length f)
+pub only : (f : List ℕ) (n : ℕ) → parse f ≡ Some (pos n) → (f ≡ render (length f) n) × (n < 10 ^ length f)
 unfolding Is parse
 only f n e = said_is (scan blank f) f (scan_is blank [] f refl) n e
 
-pub only_minus : (f : List ℕ) (n : ℕ) → parse f ≡ Minus n → (0 < n) × (f ≡ render_minus (length f) n)
+pub only_minus : (f : List ℕ) (n : ℕ) → parse f ≡ Some (negsuc n) → f ≡ render_minus (length f) (suc n)
 unfolding Is parse
 only_minus f n e = said_is_minus (scan blank f) f (scan_is blank [] f refl) n e
 
@@ -245,27 +247,29 @@ unfolding scan
 scan_small s [] h = h
 scan_small s (b ∷ bs) h = scan_small (step s b) bs (step_small s b)
 
-said_small : (s : State) → Small s → (n : ℕ) → said s ≡ Plus n → n < 1000000000
+said_small : (s : State) → Small s → (n : ℕ) → said s ≡ Some (pos n) → n < 1000000000
 unfolding Small
 said_small blank h n e = let z : ◌≡◌ {A = ℕ} 0 1 = cc in absurd (omega arith)
 said_small signed h n e = let z : ◌≡◌ {A = ℕ} 0 1 = cc in absurd (omega arith)
 said_small (digits false m) h n e = let q : m ≡ n = cc in omega arith
-said_small (digits true m) h n e = let z : ◌≡◌ {A = ℕ} 0 1 = cc in absurd (omega arith)
+said_small (digits true zero) h n e = let q : ◌≡◌ {A = ℕ} 0 n = cc in omega arith
+said_small (digits true (suc m)) h n e = let z : ◌≡◌ {A = ℕ} 0 1 = cc in absurd (omega arith)
 said_small wrong h n e = let z : ◌≡◌ {A = ℕ} 0 1 = cc in absurd (omega arith)
 
-said_small_minus : (s : State) → Small s → (n : ℕ) → said s ≡ Minus n → n < 1000000000
+said_small_minus : (s : State) → Small s → (n : ℕ) → said s ≡ Some (negsuc n) → suc n < 1000000000
 unfolding Small
 said_small_minus blank h n e = let z : ◌≡◌ {A = ℕ} 0 1 = cc in absurd (omega arith)
 said_small_minus signed h n e = let z : ◌≡◌ {A = ℕ} 0 1 = cc in absurd (omega arith)
 said_small_minus (digits false m) h n e = let z : ◌≡◌ {A = ℕ} 0 1 = cc in absurd (omega arith)
-said_small_minus (digits true m) h n e = let q : m ≡ n = cc in omega arith
+said_small_minus (digits true zero) h n e = let z : ◌≡◌ {A = ℕ} 0 1 = cc in absurd (omega arith)
+said_small_minus (digits true (suc m)) h n e = let q : m ≡ n = cc in omega arith
 said_small_minus wrong h n e = let z : ◌≡◌ {A = ℕ} 0 1 = cc in absurd (omega arith)
 
-pub small : (f : List ℕ) (n : ℕ) → parse f ≡ Plus n → n < 1000000000
+pub small : (f : List ℕ) (n : ℕ) → parse f ≡ Some (pos n) → n < 1000000000
 unfolding Small parse
 small f n e = said_small (scan blank f) (scan_small blank f tt) n e
 
-pub small_minus : (f : List ℕ) (n : ℕ) → parse f ≡ Minus n → n < 1000000000
+pub small_minus : (f : List ℕ) (n : ℕ) → parse f ≡ Some (negsuc n) → suc n < 1000000000
 unfolding Small parse
 small_minus f n e = said_small_minus (scan blank f) (scan_small blank f tt) n e
 
@@ -277,7 +281,7 @@ step_lf signed = refl
 step_lf (digits minus n) = refl
 step_lf wrong = refl
 
-pub lf_bad : (f : List ℕ) (i : ℕ) → i < length f → get_or f i 0 ≡ 10 → parse f ≡ Bad
+pub lf_bad : (f : List ℕ) (i : ℕ) → i < length f → get_or f i 0 ≡ 10 → parse f ≡ None
 unfolding parse scan
 lf_bad f i h e =
     let p : f ≡ take i f ++ (10 ∷ drop (suc i) f) = sym (take-append-drop i f) ∙ ap (λ (r : List ℕ). take i f ++ r) (drop-cons f i 0 h ∙ ap (λ (b : ℕ). b ∷ drop (suc i) f) e) in

@@ -1,9 +1,7 @@
 -- What a number field of a sheet says (SPECIFICATION, "Sheet"): right-justified with spaces, without leading
 -- zeros, a minus only before a number that is not 0; at most nine digits.
 -- Assumes nothing.
-use Rattle.std.specs.Prelude.{ℕ, ◌+◌, ◌-◌, ◌*◌, List, [], ◌∷◌, Bool, true, false, not, cond, ◌&&◌, ltb, leb, eqb}
-use Rattle.fields.specs.declared.Field.{Field}
-use Rattle.fields.specs.declared.Field.TheVariants.{Plus, Minus, Bad}
+use Rattle.std.specs.Prelude.{ℕ, ◌+◌, ◌-◌, ◌*◌, List, [], ◌∷◌, Bool, true, false, not, cond, ◌&&◌, ltb, leb, eqb, ℤ, pos, negsuc, neg_ℤ, Option, Some, None, option_and_then}
 
 -- what the bytes read so far are
 pub data State : Type 0 where
@@ -39,22 +37,21 @@ unfoldable pub scan : State → List ℕ → State
 scan s [] = s
 scan s (b ∷ bs) = scan (step s b) bs
 
--- what the field says
-abbrev pub said : State → Field
-said blank = Bad
-said signed = Bad
-said (digits false n) = Plus n
-said (digits true n) = Minus n
-said wrong = Bad
+-- what the field says: a number, or none
+abbrev pub said : State → Option ℤ
+said blank = None
+said signed = None
+said (digits false n) = Some (pos n)
+said (digits true n) = Some (neg_ℤ (pos n))
+said wrong = None
 
-unfoldable pub parse : List ℕ → Field
+unfoldable pub parse : List ℕ → Option ℤ
 parse bytes = said (scan blank bytes)
 
--- a number without a minus; 10^10, more than nine digits hold, where there is none
-abbrev pub count_or : Field → ℕ
-count_or (Plus n) = n
-count_or (Minus n) = 10000000000
-count_or Bad = 10000000000
+-- a number without a minus
+abbrev pub count_of : ℤ → Option ℕ
+count_of (pos n) = Some n
+count_of (negsuc n) = None
 
-unfoldable pub count_in : List ℕ → ℕ
-count_in bytes = count_or (parse bytes)
+unfoldable pub count_in : List ℕ → Option ℕ
+count_in bytes = option_and_then count_of (parse bytes)

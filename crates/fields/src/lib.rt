@@ -1,96 +1,67 @@
 // Fields of a text read as numbers: right-justified with spaces, without leading zeros.
 #![tactic(auto)]
 
-ghost use Rattle.std.specs.Prelude.{◌≡◌, length, drop};
+ghost use Rattle.std.specs.Prelude.{◌≡◌};
 ghost use Rattle.fields.specs.Field.{parse, count_in};
-ghost use Rattle.fields.specs.Reading.{field_of, begun, Spaces};
+ghost use Rattle.fields.specs.Reading.{digits_said, begun, Spaces};
 
-// What a field says: a number, a number below 0 by its size, or no number.
-#[derive(Clone, Copy)]
-pub enum Field {
-    Plus(u64),
-    Minus(u64),
-    Bad,
-}
-
-// Stands for a field that is no number without a minus: more than nine digits hold.
-pub const NO_NUMBER: u64 = 10000000000;
-
-// The place of the first byte that is no space.
-fn behind_spaces(f: &[u8]) -> usize
-    ensures { Spaces f.now result }
+// A field without the spaces before its first other byte.
+#[tactic(auto, unfolding(crate::specs::Field::scan))]
+fn behind_spaces(f: &[u8]) -> &[u8]
+    ensures { Spaces f.now result.now }
 {
-    let mut i: usize = 0;
-    while i < f.len() {
-        if f[i] != 32 {
-            return i;
-        }
-        i += 1;
+    let mut rest = f;
+    while let [b' ', behind @ ..] = rest {
+        rest = behind;
     }
-    i
+    rest
 }
 
-// The number whose digits start at a place. Nine digits stay in 64 bits, so each turn has one test.
-fn digits_of(f: &[u8], at: usize) -> u64
-    ensures { field_of result ≡ begun (drop at f.now) }
+// The number that digits alone write, at most nine of them: so it fits without a test in each turn.
+#[tactic(auto, using(crate::proofs::Read::none_said, crate::proofs::Read::long_said, crate::proofs::Read::zero_said, crate::proofs::Read::turn_bad, crate::proofs::Read::turned))]
+fn digits_of(f: &[u8]) -> Option<u32>
+    ensures { digits_said result ≡ begun f.now }
 {
-    if f.len() <= at {
-        return NO_NUMBER;
+    if f.is_empty() {
+        return None;
     }
-    if f[at] == 48 {
-        if 1 < f.len() - at {
-            return NO_NUMBER;
+    if f[0] == b'0' {
+        return (f.len() == 1).then_some(0);
+    }
+    if 9 < f.len() {
+        return None;
+    }
+    let mut n: u32 = 0;
+    for d in f {
+        if !d.is_ascii_digit() {
+            return None;
         }
-        return 0;
+        n = n * 10 + u32::from(*d - b'0');
     }
-    if 9 < f.len() - at {
-        return NO_NUMBER;
-    }
-    let mut n: u64 = 0;
-    let mut i = at;
-    while i < f.len() {
-        let d = f[i];
-        if d < 48 {
-            return NO_NUMBER;
-        }
-        if 57 < d {
-            return NO_NUMBER;
-        }
-        n = n * 10 + (d - 48) as u64;
-        i += 1;
-    }
-    n
+    Some(n)
 }
 
-// Reads a field without sign: a minus is no digit. The answer is a number alone, so that none goes through memory.
-pub fn read_count(f: &[u8]) -> u64
+// Reads a field without sign: a minus is no digit.
+pub fn read_count(f: &[u8]) -> Option<u64>
     ensures { result ≡ count_in f.now }
 {
-    let i = behind_spaces(f);
-    digits_of(f, i)
+    let digits = behind_spaces(f);
+    let n = digits_of(digits)?;
+    Some(u64::from(n))
 }
 
 // Reads a field.
-pub fn read_number(f: &[u8]) -> Field
+pub fn read_number(f: &[u8]) -> Option<i64>
     ensures { result ≡ parse f.now }
 {
-    let i = behind_spaces(f);
-    if f.len() <= i {
-        return Field::Bad;
+    let f = behind_spaces(f);
+    if f.is_empty() {
+        return None;
     }
-    if f[i] == 45 {
-        let n = digits_of(f, i + 1);
-        if n == NO_NUMBER {
-            return Field::Bad;
-        }
-        if n == 0 {
-            return Field::Bad;
-        }
-        return Field::Minus(n);
+    if f[0] == b'-' {
+        let n = digits_of(&f[1..])?;
+        return (n != 0).then_some(-i64::from(n));
     }
-    let n = digits_of(f, i);
-    if n == NO_NUMBER {
-        return Field::Bad;
-    }
-    Field::Plus(n)
+    let n = digits_of(f)?;
+    Some(i64::from(n))
 }

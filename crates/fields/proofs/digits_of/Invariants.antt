@@ -1,13 +1,8 @@
--- What the loops of `fields::digits_of` keep. Assumes nothing.
-use Prim.Native.Nat.{◌+◌, ◌-◌, ◌^◌, ◌≤◌, ◌<◌}
-use mathlib.Core.Path.{◌≡◌}
-use lib.ListN.{length, drop}
+-- What the loop of `fields::digits_of` keeps. Assumes nothing.
+use Rattle.std.proofs.Common.{◌≡◌, ◌^◌, ◌<◌, ◌≤◌, drop}
 use Rattle.fields.specs.Reading.{begun}
 use Rattle.fields.proofs.Read.{ahead}
 use Rattle.fields.proofs.digits_of.Given as goal
 
-abbrev pub invariant-loop-i : goal.invariant-loop-i
-invariant-loop-i l = (l.at ≤ l.i) × (l.i ≤ length l.f) × (l.i ≤ l.at + l.n) × (l.n < 10 ^ (l.i - l.at)) × (ahead l.n (drop l.i l.f) ≡ begun (drop l.at l.f))
-
-abbrev pub decreases-loop-i : goal.decreases-loop-i
-decreases-loop-i l = length l.f - l.i
+abbrev pub invariant-loop-d : goal.invariant-loop-d
+invariant-loop-d l = (l.d-index ≤ l.n) × (l.n < 10 ^ l.d-index) × (ahead l.n (drop l.d-index l.f) ≡ begun l.f)
