@@ -1,33 +1,31 @@
--- Words and numbers of a line, by the place of the line's first byte.
+-- Lines of a text, and words and numbers of a line.
 -- Assumes nothing.
-use Rattle.std.specs.Prelude.{ℕ, suc, ◌+◌, ◌-◌, ◌*◌, min, cond, List, [], ◌∷◌, ltb, eqb, ℤ, pos, neg_ℤ, length, get_or, drop}
+use Rattle.std.specs.Prelude.{ℕ, zero, suc, ◌+◌, ◌-◌, ◌*◌, min, cond, ◌==◌, List, [], ◌∷◌, ltb, eqb, ℤ, pos, neg_ℤ}
+use Rattle.std.specs.List.{before_first, after_first, slice_split}
 use Rattle.units.specs.Grounds.{outside}
 
--- the byte at a place, a line end behind the last
-unfoldable pub byte_at : List ℕ → ℕ → ℕ
-byte_at bytes i = cond (ltb i (length bytes)) (get_or bytes i 0) 10
+-- the bytes before the first byte c, all of them where there is none, and those behind it
+abbrev pub part_before : ℕ → List ℕ → List ℕ
+part_before c bytes = before_first (λ x. x == c) bytes
 
--- the place behind a place, that of the end at most
-unfoldable pub place_behind : List ℕ → ℕ → ℕ
-place_behind bytes i = cond (ltb i (length bytes)) (i + 1) i
+abbrev pub part_behind : ℕ → List ℕ → List ℕ
+part_behind c bytes = after_first (λ x. x == c) bytes
 
--- how many bytes stand before the first byte c, all of them where there is none
-unfoldable pub before : ℕ → List ℕ → ℕ
-before c [] = 0
-before c (x ∷ xs) = cond (eqb x c) 0 (suc (before c xs))
+-- the parts of a text without an empty last one
+unfoldable pub ended : List (List ℕ) → List (List ℕ)
+ended [] = []
+ended ([] ∷ []) = []
+ended ((c ∷ line) ∷ []) = (c ∷ line) ∷ []
+ended (part ∷ next ∷ parts) = part ∷ ended (next ∷ parts)
 
--- the place of the line's end
-abbrev pub line_end : List ℕ → ℕ → ℕ
-line_end bytes at = at + before 10 (drop at bytes)
+-- the lines of a text: each ends before a line end, or the last at the text's end
+unfoldable pub lines_of : List ℕ → List (List ℕ)
+lines_of bytes = ended (slice_split (λ x. x == 10) bytes)
 
--- how many bytes stand before word k, all of them where there is none; a space ends a word
-unfoldable pub before_word : ℕ → List ℕ → ℕ
-before_word k [] = 0
-before_word k (x ∷ xs) = cond (eqb k 0) 0 (suc (before_word (cond (eqb x 32) (k - 1) k) xs))
-
--- the place of the line's word k; its first is word 0
-abbrev pub word_place : List ℕ → ℕ → ℕ → ℕ
-word_place bytes at k = at + before_word k (drop at bytes)
+-- a line from its word k on; its first is word 0, and a space ends a word
+unfoldable pub word_in : ℕ → List ℕ → List ℕ
+word_in zero line = line
+word_in (suc k) line = part_behind 32 (word_in k line)
 
 -- n with one more digit behind it; n itself where 64 bits do not hold that
 unfoldable pub with_digit : ℕ → ℕ → ℕ
@@ -38,10 +36,6 @@ unfoldable pub digits_of : ℕ → List ℕ → ℕ
 digits_of n [] = n
 digits_of n (c ∷ cs) = cond (outside 48 57 c) n (digits_of (with_digit n (c - 48)) cs)
 
--- the number at a place
-abbrev pub number_from : List ℕ → ℕ → ℕ
-number_from bytes i = digits_of 0 (drop i bytes)
-
 -- n as a signed number of 64 bits, and minus n; the nearest there is where 64 bits do not hold it
 unfoldable pub as_positive : ℕ → ℤ
 as_positive n = pos (min n 9223372036854775807)
@@ -49,13 +43,14 @@ as_positive n = pos (min n 9223372036854775807)
 unfoldable pub as_negative : ℕ → ℤ
 as_negative n = neg_ℤ (pos (min n 9223372036854775808))
 
--- the signed number at a place: minus the number behind it where a minus stands there
-unfoldable pub signed_from : List ℕ → ℕ → ℤ
-signed_from bytes i = cond (eqb (byte_at bytes i) 45) (as_negative (number_from bytes (place_behind bytes i))) (as_positive (number_from bytes i))
+-- the signed number that a word begins with: minus the number behind it where a minus stands there
+unfoldable pub signed_of : List ℕ → ℤ
+signed_of [] = pos 0
+signed_of (c ∷ cs) = cond (eqb c 45) (as_negative (digits_of 0 cs)) (as_positive (digits_of 0 (c ∷ cs)))
 
 -- the line's number k, and its signed number k
-unfoldable pub number_at : List ℕ → ℕ → ℕ → ℕ
-number_at bytes at k = number_from bytes (word_place bytes at k)
+unfoldable pub number_in : List ℕ → ℕ → ℕ
+number_in line k = digits_of 0 (word_in k line)
 
-unfoldable pub signed_at : List ℕ → ℕ → ℕ → ℤ
-signed_at bytes at k = signed_from bytes (word_place bytes at k)
+unfoldable pub signed_in : List ℕ → ℕ → ℤ
+signed_in line k = signed_of (word_in k line)

@@ -1,14 +1,19 @@
 -- What the test programs print of a line and of a float.
 -- Assumes nothing.
-use Rattle.std.specs.Prelude.{ℕ, ◌&&◌, nat_le, cond, List, [], ◌∷◌, ◌++◌, length, slice_range, pos}
+use Rattle.std.specs.Prelude.{ℕ, ◌&&◌, cond, List, [], ◌∷◌, ◌++◌, pos, flat_map}
 use Rattle.std.specs.Fmt.{decimal}
 use Rattle.std.specs.Float.{Float, binary64, minus_one, two_to, float_to_unsigned}
 use Rattle.std.specs.Int.{w64}
+use Rattle.harness_lines.specs.Lines.{part_before}
 use lib.Ieee.{lt, eq, of_int}
 
--- the bytes from a place to another, none where they are no places of the line
-abbrev pub part : List ℕ → ℕ → ℕ → List ℕ
-part bytes from to = cond (nat_le from to && nat_le to (length bytes)) (slice_range bytes from to) []
+-- a space and a number, for each number
+abbrev pub numbers_text : List ℕ → List ℕ
+numbers_text numbers = flat_map (λ n. 32 ∷ decimal n) numbers
+
+-- the line of a case as far as it goes, and ` =` behind it
+abbrev pub case_text : List ℕ → List ℕ
+case_text line = part_before 10 line ++ (32 ∷ 61 ∷ [])
 
 -- the whole part of a float from 0 on below 2^64, with a point behind it where that is not all
 abbrev pub whole_text : Float → ℕ → List ℕ

@@ -1,4 +1,4 @@
-// What the test programs share about what they print: numbers, parts of a line, floats.
+// What the test programs share about what they print: numbers, the line of a case, floats.
 #![tactic(auto)]
 
 ghost use Rattle.std.specs.Prelude.{◌∷◌, OnOk};
@@ -6,7 +6,7 @@ ghost use Rattle.std.specs.Fmt.{decimal};
 ghost use Rattle.std.specs.Io.KnownBytes.{Appends};
 ghost use Rattle.std.specs.Float.{minus_one, two_to, ◌<ᶠ◌, float_to_unsigned};
 ghost use Rattle.std.specs.Int.{w64};
-ghost use Rattle.harness_prints.specs.Prints.{part, whole_text, float_text};
+ghost use Rattle.harness_prints.specs.Prints.{numbers_text, case_text, whole_text, float_text};
 
 use std::io;
 use std::io::Write;
@@ -18,14 +18,22 @@ pub fn print<W: Write>(out: &mut W, n: u64) -> io::Result<()>
     write!(out, " {n}")
 }
 
-// The bytes from a place to another.
-pub fn print_part<W: Write>(out: &mut W, b: &[u8], from: usize, to: usize) -> io::Result<()>
-    ensures { OnOk result (Appends (W.contents out.old) (W.contents out.new) (part b.now from to)) }
+// A space and a number, for each number.
+pub fn print_numbers<W: Write>(out: &mut W, numbers: &[u64]) -> io::Result<()>
+    ensures { OnOk result (Appends (W.contents out.old) (W.contents out.new) (numbers_text numbers.now)) }
 {
-    if from <= to && to <= b.len() {
-        return out.write_all(&b[from..to]);
+    for n in numbers {
+        print(out, *n)?;
     }
     Ok(())
+}
+
+// The line of a case as far as it goes, and ` =` behind it.
+pub fn print_case<W: Write>(out: &mut W, line: &[u8]) -> io::Result<()>
+    ensures { OnOk result (Appends (W.contents out.old) (W.contents out.new) (case_text line.now)) }
+{
+    out.write_all(harness_lines::split(line, b'\n').0)?;
+    out.write_all(b" =")
 }
 
 // The whole part of a float; a point behind it where that is not all.

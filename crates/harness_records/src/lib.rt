@@ -2,47 +2,55 @@
 #![tactic(auto)]
 
 ghost use Rattle.std.specs.Prelude.{◌≡◌};
-ghost use Rattle.harness_records.specs.Records.{head_at, record_at};
+ghost use Rattle.units.specs.Lists.{tab};
+ghost use Rattle.harness_records.specs.Records.{temperature_in, head_in, record_in};
 
-use inventory::{Head, Record, Shares, Speeds};
-use units::Speed;
+use harness_lines::{number, signed};
+use inventory::{Head, Record, Shares};
+use units::{Speed, Speeds};
+
+// The twelve temperatures of a line.
+#[tactic(auto, using(units::proofs::Tab::filled_none, units::proofs::Tab::filled_more, units::proofs::Tab::filled))]
+fn temperatures(line: &[u8]) -> [i64; 12]
+    ensures { result ≡ tab (temperature_in line.now) 12 }
+{
+    let mut temps = [0; 12];
+    for k in 0..12 {
+        temps[k] = signed(line, k as u64 + 2);
+    }
+    temps
+}
 
 // The head of a line: the trip length, twelve temperatures, and the first and the last day, 0 and 0 without dates.
-pub fn head_of(b: &[u8], at: usize) -> Head
-    ensures { result ≡ head_at b.now at }
+#[tactic(auto, unfolding(crate::specs::Records::head_in))]
+pub fn head_of(line: &[u8]) -> Head
+    ensures { result ≡ head_in line.now }
 {
-    let mut temps = [0i64; 12];
-    let mut k: u64 = 0;
-    while k < 12 {
-        temps[k as usize] = harness_lines::signed(b, at, k + 2);
-        k += 1;
-    }
-    let first = harness_lines::number(b, at, 14);
-    let last = harness_lines::number(b, at, 15);
     Head {
-        trip: harness_lines::number(b, at, 1),
-        temps,
-        period: calendar::period_from(first, last),
+        trip: number(line, 1),
+        temps: temperatures(line),
+        period: calendar::period_from(number(line, 14), number(line, 15)),
     }
 }
 
 // The record of a line, behind the number of times.
-pub fn record_of(b: &[u8], at: usize) -> Record
-    ensures { result ≡ record_at b.now at }
+#[tactic(auto, unfolding(crate::specs::Records::record_in))]
+pub fn record_of(line: &[u8]) -> Record
+    ensures { result ≡ record_in line.now }
 {
     Record {
-        class: harness_lines::number(b, at, 2),
-        vehicles: harness_lines::number(b, at, 3),
-        km: harness_lines::number(b, at, 4),
+        class: number(line, 2),
+        vehicles: number(line, 3),
+        km: number(line, 4),
         shares: Shares {
-            urban: harness_lines::number(b, at, 5),
-            rural: harness_lines::number(b, at, 6),
-            highway: harness_lines::number(b, at, 7),
+            urban: number(line, 5),
+            rural: number(line, 6),
+            highway: number(line, 7),
         },
         speeds: Speeds {
-            urban: Speed(harness_lines::number(b, at, 8)),
-            rural: Speed(harness_lines::number(b, at, 9)),
-            highway: Speed(harness_lines::number(b, at, 10)),
+            urban: Speed(number(line, 8)),
+            rural: Speed(number(line, 9)),
+            highway: Speed(number(line, 10)),
         },
     }
 }
