@@ -10,7 +10,7 @@ use inventory::{Head, Record, Shares};
 use units::{Speed, Speeds};
 
 // The twelve temperatures of a line.
-#[tactic(auto, using(units::proofs::Tab::filled_none, units::proofs::Tab::filled_more, units::proofs::Tab::filled))]
+#[tactic(auto, using(units::proofs::Tab::filled))]
 fn temperatures(line: &[u8]) -> [i64; 12]
     ensures { result ≡ tab (temperature_in line.now) 12 }
 {
