@@ -7,13 +7,13 @@ use native.Mathlib.Nat.{mul-le-mul}
 use native.Mathlib.Omega.{arith}
 use lib.Dec.{eqb, ltb}
 use borrow.Author.Tests.{lt-ltb, le-ltb, ltb-false}
+use Rattle.std.specs.Prelude.{Result, Ok, Err, IsErrAnd}
 use Rattle.units.specs.declared.Refusal.{Refusal}
-use Rattle.units.specs.declared.Verdict.{Verdict}
-use Rattle.units.specs.declared.Verdict.TheVariants.{Taken, Refused}
 use Rattle.units.specs.Grounds.{ground, first_fit}
-use Rattle.units.specs.Refusals.{refusal_number, verdict_number}
+use Rattle.units.specs.Refusals.{refusal_number, answer_number}
 use Rattle.units.specs.Rounding.{half_up}
 use Rattle.units.proofs.Grounds.{passed, fit_append}
+use Rattle.units.proofs.Passed.{passed_up}
 use Rattle.units.proofs.Refusals.{number_positive, taken_number, refused_number}
 use Rattle.inventory.specs.declared.Run.{Run}
 use Rattle.inventory.specs.Order.{in_order}
@@ -29,15 +29,17 @@ module _ (run : Run) (fuel limit content : ℕ) where
   unfolding content_grounds total_grounds first_fit
   in_turn = fit_append (total_grounds run fuel 5) (ground 15 (ltb limit content) ∷ []) tt
 
-  module _ (v : Verdict) (asked : verdict_number v ≡ first_fit (total_grounds run fuel 5)) where
-    pub unasked : (r : Refusal) → v ≡ Refused r → refusal_number r ≡ first_fit (content_grounds run fuel limit content)
-    unasked r e = rw (in_turn, refused_number v r _ e asked, number_positive r)
+  module _ {A : Type 0} (v : Result A Refusal) (asked : answer_number v ≡ first_fit (total_grounds run fuel 5)) where
+    pub unasked : {B : Type 0} (answer : Result B Refusal) (r : Refusal) → IsErrAnd answer (λ y. y ≡ r) → v ≡ Err r
+        → answer_number answer ≡ first_fit (content_grounds run fuel limit content)
+    unfolding answer_number
+    unasked answer r is e = rw (passed_up answer r is, in_turn, refused_number v r _ e asked, number_positive r)
 
-    pub over : v ≡ Taken → limit < content → 15 ≡ first_fit (content_grounds run fuel limit content)
-    over e h = rw (in_turn, taken_number v _ e asked, lt-ltb limit content h)
+    pub over : (x : A) → v ≡ Ok x → limit < content → 15 ≡ first_fit (content_grounds run fuel limit content)
+    over x e h = rw (in_turn, taken_number v x _ e asked, lt-ltb limit content h)
 
-    pub within : v ≡ Taken → content ≤ limit → 0 ≡ first_fit (content_grounds run fuel limit content)
-    within e h = rw (in_turn, taken_number v _ e asked, le-ltb limit content h)
+    pub within : (x : A) → v ≡ Ok x → content ≤ limit → 0 ≡ first_fit (content_grounds run fuel limit content)
+    within x e h = rw (in_turn, taken_number v x _ e asked, le-ltb limit content h)
 
 -- what such a question has that no ground fits
 pub record Contained (run : Run) (fuel limit content : ℕ) : Type 0 where
@@ -46,7 +48,7 @@ pub record Contained (run : Run) (fuel limit content : ℕ) : Type 0 where
   pub fuel_high : fuel ≤ 3
   pub content_high : content ≤ limit
 
-pub contained : (run : Run) (fuel limit content : ℕ) → first_fit (content_grounds run fuel limit content) ≡ 0 → Contained run fuel limit content
+contained : (run : Run) (fuel limit content : ℕ) → first_fit (content_grounds run fuel limit content) ≡ 0 → Contained run fuel limit content
 unfolding content_grounds total_grounds
 contained run fuel limit content z =
     let p = both (total_grounds run fuel 5) (ground 15 (ltb limit content) ∷ []) tt z in
@@ -57,6 +59,10 @@ contained run fuel limit content z =
       fuel_high = a.fuel_high;
       content_high = ltb-false limit content (passed (ground 15 (ltb limit content) ∷ []) tt p.1).0;
     }
+
+pub contained_ok : {A : Type 0} (v : Result A Refusal) (x : A) (run : Run) (fuel limit content : ℕ) → v ≡ Ok x
+    → answer_number v ≡ first_fit (content_grounds run fuel limit content) → Contained run fuel limit content
+contained_ok v x run fuel limit content e h = contained run fuel limit content (taken_number v x _ e h)
 
 -- the numbers of a formula stay small within the limit of the content
 pub sized : (limit content a b c d : ℕ) → content ≤ limit → a + b * limit ≤ 4 * c → c + d * limit ≤ 20000000

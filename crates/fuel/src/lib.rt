@@ -3,74 +3,85 @@
 
 ghost use Rattle.std.specs.Prelude.{◌≡◌, ◌+◌, ◌*◌, ◌-◌, ◌≤◌, ◌<◌};
 ghost use Rattle.units.specs.Grounds.{first_fit};
-ghost use Rattle.units.specs.Refusals.{verdict_number};
+ghost use Rattle.units.specs.Refusals.{answer_number};
 ghost use Rattle.units.specs.Rounding.{half_up};
 ghost use Rattle.inventory.specs.Printed.{answered, printed_answer};
 ghost use Rattle.balance.specs.Balance.{printed_fuel};
 ghost use Rattle.fuel.specs.FromFuel.{content_grounds, co2_of, so2_of, lead_of};
 
-use inventory::{Printed, Run};
-use units::{Refusal, Verdict};
+use inventory::Run;
+use units::{Grams, Refusal};
 
 // Whether a question for grams from fuel is refused: as one for its FC total, then 15 where the content is over its limit.
-fn content_verdict(run: Run, fuel: u64, limit: u64, content: u64) -> Verdict
-    ensures { verdict_number result ≡ first_fit (content_grounds run fuel limit content) }
+fn content_verdict(run: &Run, fuel: u64, limit: u64, content: u64) -> Result<(), Refusal>
+    ensures { answer_number result ≡ first_fit (content_grounds run.now fuel limit content) }
 {
-    let v = totals::question_verdict(run, fuel, 5);
-    match v {
-        Verdict::Refused(x) => {
-            return Verdict::Refused(x);
-        }
-        Verdict::Taken => {}
-    }
+    totals::question_verdict(run, fuel, 5)?;
     if limit < content {
-        return Verdict::Refused(Refusal::FuelContent);
+        return Err(Refusal::FuelContent);
     }
-    Verdict::Taken
+    Ok(())
 }
 
-// (a + b × content) × F / (c + d × content), half up: what CO2, SO2 and lead have in common.
-fn from_fuel(
-    run: Run,
-    fuel: u64,
+// What CO2, SO2 and lead have in common: (a + b × content) × F / (c + d × content), half up, for a content up to its limit.
+#[derive(Clone, Copy)]
+struct Formula {
     limit: u64,
-    content: u64,
     a: u64,
     b: u64,
     c: u64,
     d: u64,
-) -> Printed
-    requires { (0 < c) × (a + b * limit ≤ 4 * c) × (c + d * limit ≤ 20000000) }
-    ensures { printed_answer result ≡ answered (first_fit (content_grounds run fuel limit content)) (half_up ((a + b * content) * printed_fuel run (fuel - 1)) (c + d * content)) }
-{
-    let v = content_verdict(run, fuel, limit, content);
-    match v {
-        Verdict::Refused(x) => {
-            return Printed::Refused(x);
-        }
-        Verdict::Taken => {}
+}
+
+impl Formula {
+    fn grams(self, run: &Run, fuel: u64, content: u64) -> Result<Grams, Refusal>
+        requires { (0 < self.c) × (self.a + self.b * self.limit ≤ 4 * self.c) × (self.c + self.d * self.limit ≤ 20000000) }
+        ensures { printed_answer result ≡ answered (first_fit (content_grounds run.now fuel self.limit content)) (half_up ((self.a + self.b * content) * printed_fuel run.now (fuel - 1)) (self.c + self.d * content)) }
+    {
+        content_verdict(run, fuel, self.limit, content)?;
+        let f = printed::total_at(run, fuel as usize - 1, 4);
+        Ok(units::scaled(f, self.a + self.b * content, self.c + self.d * content))
     }
-    let f = printed::total_at(run, fuel as usize - 1, 4);
-    Printed::Given(units::scaled(f, a + b * content, c + d * content))
 }
 
 // CO2 of a fuel; hydrogen per carbon in thousandths.
-pub fn co2(run: Run, fuel: u64, hydrogen: u64) -> Printed
-    ensures { printed_answer result ≡ co2_of run fuel hydrogen }
+pub fn co2(run: &Run, fuel: u64, hydrogen: u64) -> Result<Grams, Refusal>
+    ensures { printed_answer result ≡ co2_of run.now fuel hydrogen }
 {
-    from_fuel(run, fuel, 4000, hydrogen, 44011000, 0, 12011000, 1008)
+    let formula = Formula {
+        limit: 4000,
+        a: 44011000,
+        b: 0,
+        c: 12011000,
+        d: 1008,
+    };
+    formula.grams(run, fuel, hydrogen)
 }
 
 // SO2 of a fuel; sulphur in ppm by mass.
-pub fn so2(run: Run, fuel: u64, sulphur: u64) -> Printed
-    ensures { printed_answer result ≡ so2_of run fuel sulphur }
+pub fn so2(run: &Run, fuel: u64, sulphur: u64) -> Result<Grams, Refusal>
+    ensures { printed_answer result ≡ so2_of run.now fuel sulphur }
 {
-    from_fuel(run, fuel, 10000, sulphur, 0, 2, 1000000, 0)
+    let formula = Formula {
+        limit: 10000,
+        a: 0,
+        b: 2,
+        c: 1000000,
+        d: 0,
+    };
+    formula.grams(run, fuel, sulphur)
 }
 
 // Lead of a fuel; lead in ppm by mass.
-pub fn lead(run: Run, fuel: u64, content: u64) -> Printed
-    ensures { printed_answer result ≡ lead_of run fuel content }
+pub fn lead(run: &Run, fuel: u64, content: u64) -> Result<Grams, Refusal>
+    ensures { printed_answer result ≡ lead_of run.now fuel content }
 {
-    from_fuel(run, fuel, 1000, content, 0, 3, 4000000, 0)
+    let formula = Formula {
+        limit: 1000,
+        a: 0,
+        b: 3,
+        c: 4000000,
+        d: 0,
+    };
+    formula.grams(run, fuel, content)
 }

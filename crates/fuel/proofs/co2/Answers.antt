@@ -8,4 +8,4 @@ use Rattle.fuel.proofs.co2.Goals as goal
 
 pub returns : goal.returns
 unfolding co2_of co2_grams
-returns c = let h = c.args.hydrogen in c.from_fuel.ensures ∙ by_numbers _ _ (44011000 + 0 * h) (44011000) (12011000 + 1008 * h) (12011000 + 1008 * h) (omega arith) (omega arith)
+returns c = let h = c.args.hydrogen in c.grams.ensures ∙ by_numbers _ _ (44011000 + 0 * h) (44011000) (12011000 + 1008 * h) (12011000 + 1008 * h) (omega arith) (omega arith)

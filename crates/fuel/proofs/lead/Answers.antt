@@ -8,4 +8,4 @@ use Rattle.fuel.proofs.lead.Goals as goal
 
 pub returns : goal.returns
 unfolding lead_of lead_grams
-returns c = let h = c.args.content in c.from_fuel.ensures ∙ by_numbers _ _ (0 + 3 * h) (3 * h) (4000000 + 0 * h) (4000000) (omega arith) (omega arith)
+returns c = let h = c.args.content in c.grams.ensures ∙ by_numbers _ _ (0 + 3 * h) (3 * h) (4000000 + 0 * h) (4000000) (omega arith) (omega arith)

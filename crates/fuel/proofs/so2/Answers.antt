@@ -8,4 +8,4 @@ use Rattle.fuel.proofs.so2.Goals as goal
 
 pub returns : goal.returns
 unfolding so2_of so2_grams
-returns c = let h = c.args.sulphur in c.from_fuel.ensures ∙ by_numbers _ _ (0 + 2 * h) (2 * h) (1000000 + 0 * h) (1000000) (omega arith) (omega arith)
+returns c = let h = c.args.sulphur in c.grams.ensures ∙ by_numbers _ _ (0 + 2 * h) (2 * h) (1000000 + 0 * h) (1000000) (omega arith) (omega arith)
