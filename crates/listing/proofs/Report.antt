@@ -13,7 +13,7 @@ use Rattle.inventory.specs.declared.Run.{Run}
 use Rattle.inventory.specs.Order.{in_order}
 use Rattle.figures.specs.declared.Figures.{Figures}
 use Rattle.figures.specs.Table.{figures}
-use Rattle.listing.specs.declared.Reported.TheVariants.{Written, Refused}
+use Rattle.std.specs.Prelude.{Ok, Err}
 use Rattle.listing.specs.Report.{lines_of, report_bytes, report_grounds, reported_answer, report_number, report_of, written, report_buffer}
 use Rattle.writing.proofs.Stores.{sets_front}
 use Rattle.listing.proofs.Lines.{all_most}
@@ -36,7 +36,7 @@ module _ (run : Run) (b : List ℕ) where
   unfolding report_number report_grounds first_fit
   number_written o h = rw (o, le-ltb (length b) (length (report_bytes run)) h)
 
-  pub refused_order : in_order run ≡ false → (reported_answer (Refused RunOrder) ≡ report_of run b) × (b ≡ report_buffer run b)
+  pub refused_order : in_order run ≡ false → (reported_answer (Err RunOrder) ≡ report_of run b) × (b ≡ report_buffer run b)
   unfolding reported_answer report_of report_buffer refusal_number
   refused_order o = let e = number_order o in (rw e, rw e)
 
@@ -48,11 +48,11 @@ module _ (run : Run) (b : List ℕ) where
     length_same : n ≡ length (report_bytes run)
     length_same = l ∙ ap length lines_same
 
-    pub refused_short : length b < n → (reported_answer (Refused ShortBuffer) ≡ report_of run b) × (b ≡ report_buffer run b)
+    pub refused_short : length b < n → (reported_answer (Err ShortBuffer) ≡ report_of run b) × (b ≡ report_buffer run b)
     unfolding reported_answer report_of report_buffer refusal_number
     refused_short h = let z = number_short o (rw length_same at h) in (rw z, rw z)
 
-    pub report_written : (c : List ℕ) → n ≤ length b → c ≡ sets b 0 (lines_of f) → (reported_answer (Written n) ≡ report_of run b) × (c ≡ report_buffer run b)
+    pub report_written : (c : List ℕ) → n ≤ length b → c ≡ sets b 0 (lines_of f) → (reported_answer (Ok n) ≡ report_of run b) × (c ≡ report_buffer run b)
     unfolding reported_answer report_of report_buffer written
     report_written c h w =
         let k : length (report_bytes run) ≤ length b = rw length_same at h in

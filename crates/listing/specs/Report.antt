@@ -1,15 +1,14 @@
 -- The report (SPECIFICATION, "Report").
 -- Assumes nothing.
-use Rattle.std.specs.Prelude.{ℕ, zero, suc, ◌+◌, not, cond, List, [], ◌∷◌, ◌++◌, eqb, ltb, length, drop}
+use Rattle.std.specs.Prelude.{ℕ, zero, suc, ◌+◌, not, cond, List, [], ◌∷◌, ◌++◌, eqb, ltb, length, drop, Result, Ok, Err}
 use Rattle.units.specs.Grounds.{Ground, ground, first_fit}
 use Rattle.units.specs.Refusals.{refusal_number}
+use Rattle.units.specs.declared.Refusal.{Refusal}
 use Rattle.inventory.specs.declared.Run.{Run}
 use Rattle.inventory.specs.Order.{in_order}
 use Rattle.figures.specs.declared.Figures.{Figures}
 use Rattle.figures.specs.Table.{figures, row_in}
 use Rattle.report_lines.specs.Line.{line_at}
-use Rattle.listing.specs.declared.Reported.{Reported}
-use Rattle.listing.specs.declared.Reported.TheVariants.{Written, Refused}
 
 -- n lines from line k on
 unfoldable pub lines_from : Figures → ℕ → ℕ → List ℕ
@@ -34,9 +33,9 @@ pub record ReportAnswer : Type 0 where
   pub bytes : ℕ
 
 -- the number and the length of each case
-unfoldable pub reported_answer : Reported → ReportAnswer
-reported_answer (Written n) = record { number = 0; bytes = n }
-reported_answer (Refused r) = record { number = refusal_number r; bytes = 0 }
+unfoldable pub reported_answer : Result ℕ Refusal → ReportAnswer
+reported_answer (Ok n) = record { number = 0; bytes = n }
+reported_answer (Err r) = record { number = refusal_number r; bytes = 0 }
 
 unfoldable pub report_number : Run → List ℕ → ℕ
 report_number run buffer = first_fit (report_grounds run buffer)

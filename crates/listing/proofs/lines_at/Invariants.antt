@@ -1,4 +1,4 @@
--- What the loops of `listing::lines_at` keep. Assumes nothing.
+-- What the loop of `listing::lines_at` keeps. Assumes nothing.
 use Prim.Native.Nat.{◌+◌, ◌-◌, ◌≤◌}
 use mathlib.Core.Path.{◌≡◌}
 use lib.ListN.{length}
@@ -8,8 +8,4 @@ use Rattle.listing.proofs.lines_at.Given as goal
 
 abbrev pub invariant-loop-k : goal.invariant-loop-k
 invariant-loop-k l =
-    (l.k ≤ 15) × (length l.b ≡ length l.initial.b) × (l.at + length (lines_from l.f (15 - l.k) l.k) ≤ length l.initial.b)
-    × (sets l.b l.at (lines_from l.f (15 - l.k) l.k) ≡ sets l.initial.b 0 (lines_of l.f))
-
-abbrev pub decreases-loop-k : goal.decreases-loop-k
-decreases-loop-k l = 15 - l.k
+    (l.at + length (lines_from l.f (15 - l.k) l.k) ≤ length l.initial.b) × (sets l.b l.at (lines_from l.f (15 - l.k) l.k) ≡ sets l.initial.b 0 (lines_of l.f))

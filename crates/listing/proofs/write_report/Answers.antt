@@ -6,7 +6,7 @@ use Rattle.listing.proofs.write_report.Goals as goal
 
 pub returns-then-not-in_order : goal.returns-then-not-in_order
 returns-then-not-in_order c =
-    let q = refused_order c.args.run c.args.buffer.now (sym c.in_order.ensures ∙ c.if-not-in_order.true) in
+    let q = refused_order c.args.run.now c.args.buffer.now (sym c.in_order.ensures ∙ c.if-not-in_order.true) in
     record { answer = q.0; bytes = q.1 }
 
 pub figures_of-f-requires : goal.figures_of-f-requires
@@ -15,7 +15,7 @@ figures_of-f-requires c = let o = sym c.in_order.ensures ∙ c.if-not-in_order.f
 pub returns-then-buffer-n : goal.returns-then-buffer-n
 returns-then-buffer-n c =
     let q =
-    refused_short c.args.run c.args.buffer.now (sym c.in_order.ensures ∙ c.if-not-in_order.false) _ c.figures_of-f.ensures _
+    refused_short c.args.run.now c.args.buffer.now (sym c.in_order.ensures ∙ c.if-not-in_order.false) _ c.figures_of-f.ensures _
     c.report_length-n.ensures c.if-buffer-n.true
     in
     record { answer = q.0; bytes = q.1 }
@@ -23,7 +23,7 @@ returns-then-buffer-n c =
 pub returns : goal.returns
 returns c =
     let q =
-    report_written c.args.run c.args.buffer.now (sym c.in_order.ensures ∙ c.if-not-in_order.false) _ c.figures_of-f.ensures _
+    report_written c.args.run.now c.args.buffer.now (sym c.in_order.ensures ∙ c.if-not-in_order.false) _ c.figures_of-f.ensures _
     c.report_length-n.ensures _ c.if-buffer-n.false c.lines_at.ensures
     in
     record { answer = q.0; bytes = q.1 }

@@ -8,12 +8,6 @@ use Rattle.report_lines.specs.Line.{line_of}
 use Rattle.report_lines.proofs.Line.{line}
 use Rattle.report_lines.proofs.line_at.Goals as goal
 
-pub overflow_add-b : goal.overflow_add-b
-overflow_add-b c = omega arith
-
-pub bounds-b-at : goal.bounds-b-at
-bounds-b-at c = omega arith
-
 pub shape_of-b : goal.shape_of-b
 shape_of-b c =
     let a = c.args in
