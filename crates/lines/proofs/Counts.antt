@@ -1,92 +1,91 @@
--- Nine numbers and their sum: how a record line is read without a test for each field. Assumes nothing.
-use Prim.Native.Nat.{ℕ, zero, suc, ◌+◌, ◌-◌, ◌*◌, ◌≤◌, ◌<◌}
-use mathlib.Core.Path.{◌≡◌, refl, sym, ap, ◌∙◌}
+-- Numbers without a minus: how the nine of a record line are read. Assumes nothing.
+use Prim.Native.Nat.{ℕ, ◌+◌}
+use mathlib.Core.Path.{◌≡◌, refl, ap, ◌∙◌}
+use mathlib.Core.Bool.{true}
 use mathlib.Core.List.{List, [], ◌∷◌}
-use mathlib.Core.Option.{Option, none, some}
-use native.Mathlib.Omega.{arith}
-use lib.IntN.{ℤ, pos, negsuc, neg_ℤ}
-use lib.ListN.{length, take, drop}
+use lib.IntN.{ℤ, pos, negsuc}
+use lib.ListN.{length, get_or, take, drop}
 use lib.Seq.{drop-drop}
-use Rattle.fields.specs.declared.Field.{Field}
-use Rattle.fields.specs.declared.Field.TheVariants.{Plus, Minus, Bad}
-use Rattle.fields.specs.Field.{parse, count_or, count_in}
-use Rattle.fields.proofs.RoundTrip.{small, only_minus}
-use Rattle.lines.specs.Lines.{fields, signed_of, number_in, before, numbers_in}
-use Rattle.lines.specs.Records.{and_then, count_of, counts_of}
-use Rattle.lines.specs.Reading.{fields_from, counts_in}
-use Rattle.lines.proofs.Lines.{before_back}
+use borrow.Author.Tests.{eq-eqb, ne_eqb}
+use Rattle.std.specs.Prelude.{Option, Some, None, option_and_then}
+use Rattle.fields.specs.Field.{parse, count_of, count_in}
+use Rattle.lines.specs.Lines.{record_widths, total, shaped, fields, before, numbers_in, numbers_of}
+use Rattle.lines.specs.Records.{and_then, counts_of, record_with, record_of}
 
--- fields from a place on
+-- ---- one field
+
+by_count : (x : Option ℤ) (n : ℕ) → option_and_then count_of x ≡ Some n → x ≡ Some (pos n)
+by_count None n e = cc
+by_count (Some (pos m)) n e = cc
+by_count (Some (negsuc m)) n e = cc
+
+pub number_plus : (f : List ℕ) (n : ℕ) → count_in f ≡ Some n → parse f ≡ Some (pos n)
+unfolding count_in
+number_plus f n e = by_count (parse f) n e
+
+pub no_number : (f : List ℕ) → count_in f ≡ None → (z : ℤ) → parse f ≡ Some z → count_of z ≡ None
+unfolding count_in
+no_number f e z p = rw p at e
+
+-- ---- all fields
+
+-- what each field counts, none where one of them is no number without a minus
+unfoldable pub counts_in : List (List ℕ) → Option (List ℕ)
+counts_in [] = Some []
+counts_in (f ∷ fs) = before (count_in f) (counts_in fs)
+
+pub counts_read : (fs : List (List ℕ)) → and_then (numbers_in fs) counts_of ≡ counts_in fs
+unfolding numbers_in counts_of counts_in count_in
+counts_read [] = refl
+counts_read (f ∷ fs) = by (parse f) (numbers_in fs) (counts_read fs)
+  where
+    none_behind : (o : Option ℕ) → None ≡ before {A = ℕ} o None
+    none_behind None = refl
+    none_behind (Some n) = refl
+
+    by : (a : Option ℤ) (o : Option (List ℤ)) → and_then o counts_of ≡ counts_in fs → and_then (before a o) counts_of ≡ before (option_and_then count_of a) (counts_in fs)
+    by None o e = refl
+    by (Some z) None e = none_behind (count_of z) ∙ ap (before (count_of z)) e
+    by (Some z) (Some zs) e = ap (before (count_of z)) e
+
+-- ---- fields by places
+
+-- the bytes from a place on cut into fields
+unfoldable pub fields_from : List ℕ → List ℕ → ℕ → List (List ℕ)
+fields_from [] bytes at = []
+fields_from (w ∷ ws) bytes at = take w (drop at bytes) ∷ fields_from ws bytes (at + w)
+
 pub fields_from_lem : (ws bytes : List ℕ) (at : ℕ) → fields ws (drop at bytes) ≡ fields_from ws bytes at
 unfolding fields fields_from
 fields_from_lem [] bytes at = refl
 fields_from_lem (w ∷ ws) bytes at = rw (drop-drop w at bytes) (ap (λ (fs : List (List ℕ)). take w (drop at bytes) ∷ fs) (fields_from_lem ws bytes (at + w)))
 
--- ---- one field
+-- ---- the record of a line
 
-or_most : (x : Field) → ((n : ℕ) → x ≡ Plus n → n < 1000000000) → count_or x ≤ 10000000000
-or_most (Plus n) h = omega (arith, h n refl)
-or_most (Minus n) h = omega arith
-or_most Bad h = omega arith
+pub not_41 : (line : List ℕ) → (length line ≡ 41 → ⊥) → None ≡ record_of line
+unfolding record_of numbers_of shaped record_widths total
+not_41 line h = rw (ne_eqb (length line) 41 h)
 
-pub count_most : (f : List ℕ) → count_in f ≤ 10000000000
-unfolding count_in
-count_most f = or_most (parse f) (small f)
+pub not_ended : (line : List ℕ) → length line ≡ 41 → (get_or line 40 0 ≡ 10 → ⊥) → None ≡ record_of line
+unfolding record_of numbers_of shaped record_widths total
+not_ended line h other = rw (eq-eqb (length line) 41 h, ne_eqb (get_or line 40 0) 10 other)
 
-plus_by : (x : Field) → count_or x < 10000000000 → x ≡ Plus (count_or x)
-plus_by (Plus n) h = refl
-plus_by (Minus n) h = absurd (omega arith)
-plus_by Bad h = absurd (omega arith)
+is_shaped : (line : List ℕ) → length line ≡ 41 → get_or line 40 0 ≡ 10 → shaped record_widths line ≡ true
+unfolding shaped record_widths total
+is_shaped line h lf = rw (eq-eqb (length line) 41 h, eq-eqb (get_or line 40 0) 10 lf)
 
-pub number_plus : (f : List ℕ) → count_in f < 10000000000 → number_in f ≡ some (pos (count_in f))
-unfolding number_in count_in
-number_plus f h = ap signed_of (plus_by (parse f) h)
+said_by : (line : List ℕ) → length line ≡ 41 → get_or line 40 0 ≡ 10 → record_of line ≡ and_then (counts_in (fields_from record_widths line 0)) λ ns. Some (record_with ns)
+unfolding record_of numbers_of
+said_by line h lf =
+    rw (is_shaped line h lf)
+    (ap (λ (o : Option (List ℕ)). and_then o λ ns. Some (record_with ns))
+    (counts_read (fields record_widths line) ∙ ap counts_in (fields_from_lem record_widths line 0)))
 
--- a number without a minus is below 10^9
-no_minus : (m : ℕ) → 0 < m → (z : ℤ) (n : ℕ) → some (neg_ℤ (pos m)) ≡ some z → count_of z ≡ some n → ⊥
-no_minus zero p z n e h = omega arith
-no_minus (suc m) p (pos k) n e h = let y : ◌≡◌ {A = ℕ} 0 1 = cc in omega arith
-no_minus (suc m) p (negsuc k) n e h = let y : ◌≡◌ {A = ℕ} 0 1 = cc in omega arith
-
-pub count_small : (f : List ℕ) (x : Field) (z : ℤ) (n : ℕ) → parse f ≡ x → signed_of x ≡ some z → count_of z ≡ some n → count_in f < 1000000000
-unfolding count_in
-count_small f (Plus m) z n p e h = rw p (small f m p)
-count_small f (Minus m) z n p e h = absurd (no_minus m (only_minus f m p).0 z n e h)
-count_small f Bad z n p e h = let y : ◌≡◌ {A = ℕ} 0 1 = cc in absurd (omega arith)
-
--- ---- all fields
-
-unfoldable pub sum_list : List ℕ → ℕ
-sum_list [] = 0
-sum_list (n ∷ ns) = n + sum_list ns
-
--- a sum below 10^10: each field is a number without a minus
-pub counts_good : (fs : List (List ℕ)) → sum_list (counts_in fs) < 10000000000 → (zs : List ℤ) × (numbers_in fs ≡ some zs) × (counts_of zs ≡ some (counts_in fs))
-unfolding sum_list counts_in numbers_in counts_of
-counts_good [] h = ([], refl, refl)
-counts_good (f ∷ fs) h =
-    let r = counts_good fs (omega arith) in
-    (pos (count_in f) ∷ r.0, rw (number_plus f (omega arith), r.1), rw r.2)
-
-counts_most : (fs : List (List ℕ)) (zs : List ℤ) (ns : List ℕ) → numbers_in fs ≡ some zs → counts_of zs ≡ some ns → sum_list (counts_in fs) ≤ 1000000000 * length fs
-unfolding sum_list counts_in numbers_in counts_of number_in
-counts_most [] zs ns e h = omega arith
-counts_most (f ∷ fs) zs ns e h =
-    let p = before_back (number_in f) (numbers_in fs) zs e in
-    let z = p.0 in
-    let rest = p.1 in
-    let h₂ : before (count_of z) (counts_of rest) ≡ some ns = ap counts_of (sym p.4) ∙ h in
-    let q = before_back (count_of z) (counts_of rest) ns h₂ in
-    omega (arith, count_small f (parse f) z q.0 refl p.2 q.2, counts_most fs rest q.1 p.3 q.3)
-
--- a sum from 10^10 on: one of at most nine fields is none
-pub counts_bad : (fs : List (List ℕ)) → length fs ≤ 9 → 10000000000 ≤ sum_list (counts_in fs) → and_then (numbers_in fs) counts_of ≡ none
-counts_bad fs l h = by (numbers_in fs) refl
-  where
-    inner : (zs : List ℤ) → numbers_in fs ≡ some zs → (o : Option (List ℕ)) → counts_of zs ≡ o → o ≡ none
-    inner zs e none q = refl
-    inner zs e (some ns) q = absurd (omega (arith, counts_most fs zs ns e q))
-
-    by : (o : Option (List ℤ)) → numbers_in fs ≡ o → and_then o counts_of ≡ none
-    by none e = refl
-    by (some zs) e = inner zs e (counts_of zs) refl
+-- its nine fields by their places
+pub record_said : (line : List ℕ) → length line ≡ 41 → get_or line 40 0 ≡ 10 → record_of line
+    ≡ and_then (before (count_in (take 2 line)) (before (count_in (take 7 (drop 2 line))) (before (count_in (take 7 (drop 9 line)))
+    (before (count_in (take 4 (drop 16 line))) (before (count_in (take 4 (drop 20 line))) (before (count_in (take 4 (drop 24 line)))
+    (before (count_in (take 4 (drop 28 line))) (before (count_in (take 4 (drop 32 line))) (before (count_in (take 4 (drop 36 line))) (Some []))))))))))
+    λ ns. Some (record_with ns)
+unfolding fields_from record_widths counts_in
+record_said line h lf = said_by line h lf

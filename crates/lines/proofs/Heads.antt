@@ -1,100 +1,80 @@
 -- The head: a loop that fills an array with twelve numbers, and what stands before them. Assumes nothing.
-use Prim.Native.Nat.{ℕ, suc, ◌+◌, ◌-◌, ◌≤◌, ◌<◌}
+use Prim.Native.Nat.{ℕ, suc, ◌+◌, ◌-◌, ◌*◌, ◌≤◌, ◌<◌}
 use mathlib.Core.Path.{◌≡◌, refl, sym, ap, ◌∙◌}
-use mathlib.Core.Bool.{true, false}
-use mathlib.Core.List.{List, ◌∷◌, ◌++◌, append-nil}
-use mathlib.Core.Option.{Option, none, some}
+use mathlib.Core.Bool.{false}
+use mathlib.Core.List.{List, ◌++◌, append-nil}
 use native.Mathlib.Numerals.{add-one}
 use native.Mathlib.Omega.{arith}
-use lib.IntN.{ℤ, pos, negsuc}
+use lib.IntN.{ℤ}
 use lib.ListN.{length, take, drop, set, replicate}
 use lib.Seq.{take-suc-set, append_snoc, take_all}
+use Rattle.std.specs.Prelude.{Option, Some, None}
 use Rattle.calendar.specs.declared.Period.{Period}
 use Rattle.fields.specs.Field.{parse, count_in}
-use Rattle.lines.specs.declared.Signed.TheVariants as signed
-use Rattle.lines.specs.Lines.{head_widths, fields, number_in, before, numbers_in}
+use Rattle.inventory.specs.declared.Head.{Head}
+use Rattle.lines.specs.Lines.{head_widths, fields, before, numbers_in}
 use Rattle.lines.specs.Records.{and_then, head_over}
-use Rattle.lines.specs.Reading.{fields_from, signed_case, temps_case}
-use Rattle.lines.proofs.Counts.{fields_from_lem, number_plus, count_small}
+use Rattle.lines.proofs.Counts.{fields_from, fields_from_lem, number_plus, no_number}
 
 -- what the first j elements of t and then r are
 abbrev pub place : List ℤ → ℕ → Option (List ℤ) → Option (List ℤ)
-place t j none = none
-place t j (some vs) = some (take j t ++ vs)
+place t j None = None
+place t j (Some vs) = Some (take j t ++ vs)
 
-pub place_zero : (t : List ℤ) (r : Option (List ℤ)) → place t 0 r ≡ r
-place_zero t none = refl
-place_zero t (some vs) = refl
+place_zero : (t : List ℤ) (r : Option (List ℤ)) → place t 0 r ≡ r
+place_zero t None = refl
+place_zero t (Some vs) = refl
 
-place_more : (t : List ℤ) (j : ℕ) (v : ℤ) (r : Option (List ℤ)) → j < length t → place t j (before (some v) r) ≡ place (set t j v) (j + 1) r
-place_more t j v none h = refl
-place_more t j v (some vs) h = ap some (rw (add-one, take-suc-set t j v h) (sym (append_snoc (take j t) v vs)))
+place_more : (t : List ℤ) (j : ℕ) (v : ℤ) (r : Option (List ℤ)) → j < length t → place t j (before (Some v) r) ≡ place (set t j v) (j + 1) r
+place_more t j v None h = refl
+place_more t j v (Some vs) h = ap Some (rw (add-one, take-suc-set t j v h) (sym (append_snoc (take j t) v vs)))
 
-case_bad : (o : Option ℤ) → signed_case o ≡ signed.Bad → o ≡ none
-case_bad none e = refl
-case_bad (some z) e = let y : ◌≡◌ {A = ℕ} 0 1 = cc in absurd (omega arith)
+-- the numbers of width 5 from the j-th of twelve on
+abbrev pub fives : List ℕ → ℕ → Option (List ℤ)
+fives s j = numbers_in (fields_from (replicate (12 - j) 5) s (5 * j + 5))
 
-case_value : (o : Option ℤ) (v : ℤ) → signed_case o ≡ signed.Value v → o ≡ some v
-case_value none v e = let y : ◌≡◌ {A = ℕ} 0 1 = cc in absurd (omega arith)
-case_value (some z) v e = let q : z ≡ v = cc in ap some q
-
--- the m numbers of width 5 from a place on
-abbrev pub fives : List ℕ → ℕ → ℕ → Option (List ℤ)
-fives s m at = numbers_in (fields_from (replicate m 5) s at)
-
-unroll : (s : List ℕ) (at j : ℕ) → j < 12 → fives s (12 - j) at ≡ before (number_in (take 5 (drop at s))) (fives s (12 - (j + 1)) (at + 5))
+unroll : (s : List ℕ) (j : ℕ) → j < 12 → fives s j ≡ before (parse (take 5 (drop (5 * j + 5) s))) (fives s (j + 1))
 unfolding numbers_in fields_from
-unroll s at j h = let e : 12 - j ≡ suc (12 - (j + 1)) = omega arith in rw e
+unroll s j h = let e : 12 - j ≡ suc (12 - (j + 1)) = omega arith in let a : 5 * j + 5 + 5 ≡ 5 * (j + 1) + 5 = omega arith in rw (e, a)
 
-module _ (s : List ℕ) (t : List ℤ) (at j : ℕ) (h : j < 12) where
-  pub missing : signed_case (number_in (take 5 (drop at s))) ≡ signed.Bad → place t j (fives s (12 - j) at) ≡ none
-  missing e = rw (unroll s at j h, case_bad (number_in (take 5 (drop at s))) e)
+module _ (s : List ℕ) (t : List ℤ) where
+  pub begin : place t 0 (fives s 0) ≡ numbers_in (fields (replicate 12 5) (drop 5 s))
+  begin = place_zero t (fives s 0) ∙ ap numbers_in (sym (fields_from_lem (replicate 12 5) s 5))
 
-  pub filled : (v : ℤ) → j < length t → signed_case (number_in (take 5 (drop at s))) ≡ signed.Value v
-      → place t j (fives s (12 - j) at) ≡ place (set t j v) (j + 1) (fives s (12 - (j + 1)) (at + 5))
-  filled v k e = rw (unroll s at j h, case_value (number_in (take 5 (drop at s))) v e) (place_more t j v (fives s (12 - (j + 1)) (at + 5)) k)
+  module _ (j : ℕ) (h : j < 12) where
+    pub missing : parse (take 5 (drop (5 * j + 5) s)) ≡ None → place t j (fives s j) ≡ None
+    missing e = rw (unroll s j h, e)
 
-pub full : (s : List ℕ) (t : List ℤ) (at j : ℕ) → 12 ≤ j → length t ≤ j → place t j (fives s (12 - j) at) ≡ some t
-unfolding numbers_in fields_from
-full s t at j h k = let e : 12 - j ≡ 0 = omega arith in rw e (ap some (rw append-nil (take_all j t k)))
+    pub filled : (v : ℤ) → j < length t → parse (take 5 (drop (5 * j + 5) s)) ≡ Some v → place t j (fives s j) ≡ place (set t j v) (j + 1) (fives s (j + 1))
+    filled v k e = rw (unroll s j h, e) (place_more t j v (fives s (j + 1)) k)
+
+  pub full : length t ≤ 12 → place t 12 (fives s 12) ≡ Some t
+  unfolding numbers_in fields_from
+  full k = ap Some (rw append-nil (take_all 12 t k))
 
 -- ---- L before them
 
-temps_some : (o : Option (List ℤ)) → (temps_case o).ok ≡ true → o ≡ some (temps_case o).temps
-temps_some none e = let y : ◌≡◌ {A = ℕ} 0 1 = cc in absurd (omega arith)
-temps_some (some ts) e = refl
+no_trip : (p : Period) (a : Option ℤ) (r : Option (List ℤ)) → ((z : ℤ) → a ≡ Some z → Rattle.fields.specs.Field.count_of z ≡ None) → None ≡ and_then (before a r) (head_over p)
+no_trip p None r h = refl
+no_trip p (Some z) None h = refl
+no_trip p (Some z) (Some ts) h = let e = h z refl in rw e
 
-temps_none : (o : Option (List ℤ)) → (temps_case o).ok ≡ false → o ≡ none
-temps_none none e = refl
-temps_none (some ts) e = let y : ◌≡◌ {A = ℕ} 0 1 = cc in absurd (omega arith)
-
-no_trip : (p : Period) (f : List ℕ) → 10000000000 ≤ count_in f → (a : Option ℤ) → number_in f ≡ a → (r : Option (List ℤ)) → and_then (before a r) (head_over p) ≡ none
-unfolding number_in
-no_trip p f h none e r = refl
-no_trip p f h (some z) e none = refl
-no_trip p f h (some (pos n)) e (some ts) = absurd (omega (arith, count_small f (parse f) (pos n) n refl e refl))
-no_trip p f h (some (negsuc n)) e (some ts) = refl
-
-no_temps : (p : Period) (a : Option ℤ) → and_then (before a none) (head_over p) ≡ none
-no_temps p none = refl
-no_temps p (some z) = refl
+no_temps : (p : Period) (a : Option ℤ) → None ≡ and_then {B = Head} (before a None) (head_over p)
+no_temps p None = refl
+no_temps p (Some z) = refl
 
 module _ (s : List ℕ) where
-  parts : numbers_in (fields (head_widths false) s) ≡ before (number_in (take 5 (drop 0 s))) (fives s 12 5)
-  unfolding numbers_in fields_from head_widths
-  parts = ap numbers_in (fields_from_lem (head_widths false) s 0)
+  parts : numbers_in (fields (head_widths false) s) ≡ before (parse (take 5 s)) (numbers_in (fields (replicate 12 5) (drop 5 s)))
+  unfolding numbers_in head_widths fields
+  parts = refl
 
   module _ (p : Period) where
-    pub trip_missing : 10000000000 ≤ count_in (take 5 (drop 0 s)) → and_then (numbers_in (fields (head_widths false) s)) (head_over p) ≡ none
-    trip_missing h = rw parts (no_trip p (take 5 (drop 0 s)) h (number_in (take 5 (drop 0 s))) refl (fives s 12 5))
+    pub trip_missing : count_in (take 5 s) ≡ None → None ≡ and_then (numbers_in (fields (head_widths false) s)) (head_over p)
+    trip_missing h = rw parts (no_trip p (parse (take 5 s)) (numbers_in (fields (replicate 12 5) (drop 5 s))) (no_number (take 5 s) h))
 
-    pub temps_missing : (temps_case (fives s 12 5)).ok ≡ false → and_then (numbers_in (fields (head_widths false) s)) (head_over p) ≡ none
-    temps_missing e = rw (parts, temps_none (fives s 12 5) e) (no_temps p (number_in (take 5 (drop 0 s))))
+    pub temps_missing : numbers_in (fields (replicate 12 5) (drop 5 s)) ≡ None → None ≡ and_then (numbers_in (fields (head_widths false) s)) (head_over p)
+    temps_missing e = rw (parts, e) (no_temps p (parse (take 5 s)))
 
-    pub head_there : count_in (take 5 (drop 0 s)) < 10000000000 → (temps_case (fives s 12 5)).ok ≡ true
-        → and_then (numbers_in (fields (head_widths false) s)) (head_over p)
-        ≡ some (record { trip = count_in (take 5 (drop 0 s)); temps = (temps_case (fives s 12 5)).temps; period = p })
-    head_there h e =
-        let q : numbers_in (fields (head_widths false) s) ≡ some (pos (count_in (take 5 (drop 0 s))) ∷ (temps_case (fives s 12 5)).temps) =
-        parts ∙ rw (number_plus (take 5 (drop 0 s)) h) (ap (before (some (pos (count_in (take 5 (drop 0 s)))))) (temps_some (fives s 12 5) e)) in
-        ap (λ (o : Option (List ℤ)). and_then o (head_over p)) q
+    pub head_there : (trip : ℕ) (temps : List ℤ) → count_in (take 5 s) ≡ Some trip → numbers_in (fields (replicate 12 5) (drop 5 s)) ≡ Some temps
+        → Some (record { trip = trip; temps = temps; period = p }) ≡ and_then (numbers_in (fields (head_widths false) s)) (head_over p)
+    head_there trip temps h e = rw (parts, number_plus (take 5 s) trip h, e)

@@ -1,5 +1,4 @@
-pub mod Lines
 pub mod Counts
-pub mod Signs
+pub mod Lines
 pub mod Heads
 pub mod HeadLines

@@ -3,7 +3,7 @@ use Prim.Native.Nat.{ℕ, zero, suc, ◌+◌, ◌-◌, ◌≤◌, ◌<◌}
 use mathlib.Core.Path.{◌≡◌, refl, sym, ap, ◌∙◌}
 use mathlib.Core.List.{List, [], ◌∷◌}
 use mathlib.Core.Bool.{Bool, true, false, cond}
-use mathlib.Core.Option.{Option, none, some}
+use Rattle.std.specs.Prelude.{Option, None, Some}
 use native.Mathlib.Numerals.{add-one}
 use native.Mathlib.Omega.{arith}
 use lib.Dec.{ltb, eqb}
@@ -13,7 +13,8 @@ use lib.Seq.{take-take, get_or-take, get_or-drop, length-take-le}
 use borrow.Author.Tests.{ltb-true, ltb-false, eqb-true, eq-eqb, ne_eqb}
 use Rattle.units.proofs.Tests.{and_left, and_right}
 use Rattle.fields.proofs.RoundTrip.{lf_bad}
-use Rattle.lines.specs.Lines.{glue, lines, first_of, total, shaped, fields, signed_of, number_in, before, numbers_in, numbers_of}
+use Rattle.fields.specs.Field.{parse}
+use Rattle.lines.specs.Lines.{glue, lines, first_of, total, shaped, fields, before, numbers_in, numbers_of}
 use Rattle.lines.specs.Records.{and_then}
 
 -- ---- the first line
@@ -79,33 +80,32 @@ first_length l = ap length (first_of-lines l) ∙ length-take-le (line_length l)
 
 -- ---- the numbers of fields
 
-none_some : {A : Type 0} {x : A} → none ≡ some x → ⊥
+none_some : {A : Type 0} {x : A} → None ≡ Some x → ⊥
 none_some e = let z : ◌≡◌ {A = ℕ} 0 1 = cc in omega arith
 
-pub before_back : {A : Type 0} (a : Option A) (b : Option (List A)) (zs : List A) → before a b ≡ some zs
-    → (z : A) × (rest : List A) × (a ≡ some z) × (b ≡ some rest) × (zs ≡ z ∷ rest)
-before_back (some z) (some rest) zs e = (z, rest, refl, refl, cc)
-before_back (some z) none zs e = absurd (none_some e)
-before_back none b zs e = absurd (none_some e)
+pub before_back : {A : Type 0} (a : Option A) (b : Option (List A)) (zs : List A) → before a b ≡ Some zs
+    → (z : A) × (rest : List A) × (a ≡ Some z) × (b ≡ Some rest) × (zs ≡ z ∷ rest)
+before_back (Some z) (Some rest) zs e = (z, rest, refl, refl, cc)
+before_back (Some z) None zs e = absurd (none_some e)
+before_back None b zs e = absurd (none_some e)
 
-pub then_back : {A B : Type 0} (o : Option A) (f : A → Option B) (y : B) → and_then o f ≡ some y → (x : A) × (o ≡ some x) × (f x ≡ some y)
-then_back none f y e = absurd (none_some e)
-then_back (some x) f y e = (x, refl, e)
+pub then_back : {A B : Type 0} (o : Option A) (f : A → Option B) (y : B) → and_then o f ≡ Some y → (x : A) × (o ≡ Some x) × (f x ≡ Some y)
+then_back None f y e = absurd (none_some e)
+then_back (Some x) f y e = (x, refl, e)
 
 -- as many numbers as widths
-pub count_numbers : (ws l : List ℕ) (zs : List ℤ) → numbers_in (fields ws l) ≡ some zs → length zs ≡ length ws
+pub count_numbers : (ws l : List ℕ) (zs : List ℤ) → numbers_in (fields ws l) ≡ Some zs → length zs ≡ length ws
 unfolding numbers_in fields
 count_numbers [] l zs e = let q : [] ≡ zs = cc in rw (sym q)
 count_numbers (w ∷ ws) l zs e =
-    let p = before_back (number_in (take w l)) (numbers_in (fields ws (drop w l))) zs e in
+    let p = before_back (parse (take w l)) (numbers_in (fields ws (drop w l))) zs e in
     rw p.4 (ap suc (count_numbers ws (drop w l) p.1 p.3))
 
 -- a field with LF in it is no number
-lf_none : (f : List ℕ) (i : ℕ) → i < length f → get_or f i 0 ≡ 10 → number_in f ≡ none
-unfolding number_in
-lf_none f i h e = ap signed_of (lf_bad f i h e)
+lf_none : (f : List ℕ) (i : ℕ) → i < length f → get_or f i 0 ≡ 10 → parse f ≡ None
+lf_none f i h e = lf_bad f i h e
 
-clear_step : (w n : ℕ) (l : List ℕ) (z : ℤ) → w + n ≤ length l → number_in (take w l) ≡ some z → Clear n (drop w l) → Clear (w + n) l
+clear_step : (w n : ℕ) (l : List ℕ) (z : ℤ) → w + n ≤ length l → parse (take w l) ≡ Some z → Clear n (drop w l) → Clear (w + n) l
 unfolding Clear
 clear_step w n l z h p c i k b = by (ltb i w) refl
   where
@@ -120,11 +120,11 @@ clear_step w n l z h p c i k b = by (ltb i w) refl
         let m : w + (i - w) ≡ i = omega arith in
         c (i - w) (omega arith) (get_or-drop w l (i - w) 0 ∙ rw m b)
 
-clear_fields : (ws l : List ℕ) (zs : List ℤ) → total ws ≤ length l → numbers_in (fields ws l) ≡ some zs → Clear (total ws) l
+clear_fields : (ws l : List ℕ) (zs : List ℤ) → total ws ≤ length l → numbers_in (fields ws l) ≡ Some zs → Clear (total ws) l
 unfolding numbers_in fields total Clear
 clear_fields [] l zs h e = λ i k b. omega arith
 clear_fields (w ∷ ws) l zs h e =
-    let parts = before_back (number_in (take w l)) (numbers_in (fields ws (drop w l))) zs e in
+    let parts = before_back (parse (take w l)) (numbers_in (fields ws (drop w l))) zs e in
     clear_step w (total ws) l parts.0 h parts.2 (clear_fields ws (drop w l) parts.1 (rw length-drop (omega arith)) parts.3)
 
 drop_take : (m n : ℕ) (l : List ℕ) → drop m (take (m + n) l) ≡ take n (drop m l)
@@ -147,11 +147,11 @@ fields_take (w ∷ ws) l n h =
 
 -- ---- a line has one shape
 
-pub numbers_back : (ws line : List ℕ) (zs : List ℤ) → numbers_of ws line ≡ some zs → (shaped ws line ≡ true) × (numbers_in (fields ws line) ≡ some zs)
+pub numbers_back : (ws line : List ℕ) (zs : List ℤ) → numbers_of ws line ≡ Some zs → (shaped ws line ≡ true) × (numbers_in (fields ws line) ≡ Some zs)
 unfolding numbers_of
 numbers_back ws line zs e = by (shaped ws line) refl e
   where
-    by : (t : Bool) → shaped ws line ≡ t → cond t (numbers_in (fields ws line)) none ≡ some zs → (shaped ws line ≡ true) × (numbers_in (fields ws line) ≡ some zs)
+    by : (t : Bool) → shaped ws line ≡ t → cond t (numbers_in (fields ws line)) None ≡ Some zs → (shaped ws line ≡ true) × (numbers_in (fields ws line) ≡ Some zs)
     by true p e = (p, e)
     by false p e = absurd (none_some e)
 
@@ -161,7 +161,7 @@ shaped_back ws line e =
     (eqb-true _ _ (and_left (eqb (length line) (total ws + 1)) _ e), eqb-true _ _ (and_right (eqb (length line) (total ws + 1)) _ e))
 
 -- numbers of one form are none of a form of another width
-pub other_form : (ws vs line : List ℕ) (zs : List ℤ) → numbers_of ws line ≡ some zs → (total ws ≡ total vs → ⊥) → numbers_of vs line ≡ none
+pub other_form : (ws vs line : List ℕ) (zs : List ℤ) → numbers_of ws line ≡ Some zs → (total ws ≡ total vs → ⊥) → numbers_of vs line ≡ None
 unfolding numbers_of shaped
 other_form ws vs line zs e differ =
     let p = shaped_back ws line (numbers_back ws line zs e).0 in
@@ -184,47 +184,47 @@ module _ (ws l : List ℕ) where
       let k : total ws < line_length l = omega (arith, ends e) in
       sym (get_or-take (line_length l) l (total ws) 0 k) ∙ eqb-true _ _ (and_right (eqb (length (take (line_length l) l)) (total ws + 1)) _ e)
 
-  misshapen : shaped ws (take (line_length l) l) ≡ false → numbers_of ws (take (line_length l) l) ≡ none
+  misshapen : shaped ws (take (line_length l) l) ≡ false → numbers_of ws (take (line_length l) l) ≡ None
   unfolding numbers_of
   misshapen e = rw e
 
   -- either none, or those of the bytes at the places of its fields
-  pub line_cases : (P : Option (List ℤ) → Type 0) → P none → P (numbers_in (fields ws l)) → P (numbers_of ws (take (line_length l) l))
+  pub line_cases : (P : Option (List ℤ) → Type 0) → P None → P (numbers_in (fields ws l)) → P (numbers_of ws (take (line_length l) l))
   unfolding numbers_of
   line_cases P a b = by (shaped ws (take (line_length l) l)) refl
     where
-      by : (t : Bool) → shaped ws (take (line_length l) l) ≡ t → P (cond t (numbers_in (fields ws (take (line_length l) l))) none)
+      by : (t : Bool) → shaped ws (take (line_length l) l) ≡ t → P (cond t (numbers_in (fields ws (take (line_length l) l))) None)
       by true e = rw (fields_take ws l (line_length l) (omega (arith, ends e))) b
       by false e = a
 
-  pub too_short : length l ≤ total ws → numbers_of ws (take (line_length l) l) ≡ none
+  pub too_short : length l ≤ total ws → numbers_of ws (take (line_length l) l) ≡ None
   too_short h = by (shaped ws (take (line_length l) l)) refl
     where
-      by : (t : Bool) → shaped ws (take (line_length l) l) ≡ t → numbers_of ws (take (line_length l) l) ≡ none
+      by : (t : Bool) → shaped ws (take (line_length l) l) ≡ t → numbers_of ws (take (line_length l) l) ≡ None
       by true e = absurd (omega (arith, ends e, short l))
       by false e = misshapen e
 
-  pub no_lf : (get_or l (total ws) 0 ≡ 10 → ⊥) → numbers_of ws (take (line_length l) l) ≡ none
+  pub no_lf : (get_or l (total ws) 0 ≡ 10 → ⊥) → numbers_of ws (take (line_length l) l) ≡ None
   no_lf h = by (shaped ws (take (line_length l) l)) refl
     where
-      by : (t : Bool) → shaped ws (take (line_length l) l) ≡ t → numbers_of ws (take (line_length l) l) ≡ none
+      by : (t : Bool) → shaped ws (take (line_length l) l) ≡ t → numbers_of ws (take (line_length l) l) ≡ None
       by true e = absurd (h (lf_there e))
       by false e = misshapen e
 
   -- a line that ends before its fields do
-  pub ends_before : (n : ℕ) → n < total ws → n < length l → get_or l n 0 ≡ 10 → numbers_of ws (take (line_length l) l) ≡ none
+  pub ends_before : (n : ℕ) → n < total ws → n < length l → get_or l n 0 ≡ 10 → numbers_of ws (take (line_length l) l) ≡ None
   ends_before n h k e = by (shaped ws (take (line_length l) l)) refl
     where
-      by : (t : Bool) → shaped ws (take (line_length l) l) ≡ t → numbers_of ws (take (line_length l) l) ≡ none
+      by : (t : Bool) → shaped ws (take (line_length l) l) ≡ t → numbers_of ws (take (line_length l) l) ≡ None
       by true p = absurd (omega (arith, ends p, lf_within n l k e))
       by false p = misshapen p
 
   -- numbers with LF behind them are a line
-  module _ (zs : List ℤ) (h : total ws < length l) (lf : get_or l (total ws) 0 ≡ 10) (e : numbers_in (fields ws l) ≡ some zs) where
+  module _ (zs : List ℤ) (h : total ws < length l) (lf : get_or l (total ws) 0 ≡ 10) (e : numbers_in (fields ws l) ≡ Some zs) where
     pub whole_line : line_length l ≡ total ws + 1
     whole_line = line_of (total ws) l h (clear_fields ws l zs (omega arith) e) lf ∙ sym (add-one (total ws))
 
-    pub line_numbers : numbers_of ws (take (line_length l) l) ≡ some zs
+    pub line_numbers : numbers_of ws (take (line_length l) l) ≡ Some zs
     unfolding numbers_of shaped
     line_numbers =
         let k : total ws < line_length l = omega (arith, whole_line) in
@@ -235,5 +235,5 @@ module _ (ws l : List ℕ) where
   same_numbers h lf = by (numbers_in (fields ws l)) refl
     where
       by : (o : Option (List ℤ)) → numbers_in (fields ws l) ≡ o → numbers_of ws (take (line_length l) l) ≡ o
-      by none e = line_cases (λ o. o ≡ none) refl e
-      by (some zs) e = line_numbers zs h lf e
+      by None e = line_cases (λ o. o ≡ None) refl e
+      by (Some zs) e = line_numbers zs h lf e

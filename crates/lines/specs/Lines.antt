@@ -1,9 +1,6 @@
 -- Lines of a sheet, and the numbers of a line (SPECIFICATION, "Sheet").
 -- Assumes nothing.
-use Rattle.std.specs.Prelude.{ℕ, ◌+◌, Bool, true, false, cond, ◌&&◌, List, [], ◌∷◌, ◌++◌, eqb, ℤ, pos, neg_ℤ, length, get_or, take, drop, replicate}
-use Rattle.std.proofs.Math.Option.{Option, none, some}
-use Rattle.fields.specs.declared.Field.{Field}
-use Rattle.fields.specs.declared.Field.TheVariants.{Plus, Minus, Bad}
+use Rattle.std.specs.Prelude.{ℕ, ◌+◌, Bool, true, false, cond, ◌&&◌, List, [], ◌∷◌, ◌++◌, eqb, ℤ, length, get_or, take, drop, replicate, Option, Some, None}
 use Rattle.fields.specs.Field.{parse}
 
 -- a byte before lines: a line of its own if it is LF, else the first byte of the first line
@@ -44,25 +41,20 @@ fields [] line = []
 fields (w ∷ ws) line = take w line ∷ fields ws (drop w line)
 
 -- what a field says, with its sign
-abbrev pub signed_of : Field → Option ℤ
-signed_of (Plus n) = some (pos n)
-signed_of (Minus n) = some (neg_ℤ (pos n))
-signed_of Bad = none
-
-unfoldable pub number_in : List ℕ → Option ℤ
-number_in field = signed_of (parse field)
+abbrev pub number_in : List ℕ → Option ℤ
+number_in field = parse field
 
 -- one more where there are some
 abbrev pub before : {A : Type 0} → Option A → Option (List A) → Option (List A)
-before (some x) (some xs) = some (x ∷ xs)
-before (some x) none = none
-before none xs = none
+before (Some x) (Some xs) = Some (x ∷ xs)
+before (Some x) None = None
+before None xs = None
 
 -- the numbers of fields, none where one of them is no number
 unfoldable pub numbers_in : List (List ℕ) → Option (List ℤ)
-numbers_in [] = some []
+numbers_in [] = Some []
 numbers_in (f ∷ fs) = before (number_in f) (numbers_in fs)
 
 -- the numbers of a line, none where its shape is wrong
 unfoldable pub numbers_of : List ℕ → List ℕ → Option (List ℤ)
-numbers_of widths line = cond (shaped widths line) (numbers_in (fields widths line)) none
+numbers_of widths line = cond (shaped widths line) (numbers_in (fields widths line)) None

@@ -1,7 +1,7 @@
 -- The head and the record of a line (SPECIFICATION, "Sheet").
 -- Assumes nothing.
-use Rattle.std.specs.Prelude.{ℕ, true, false, List, [], ◌∷◌, ℤ, pos, negsuc, get_or, take, drop}
-use Rattle.std.proofs.Math.Option.{Option, none, some}
+use Rattle.std.specs.Prelude.{ℕ, true, false, List, [], ◌∷◌, ℤ, get_or, take, drop, Option, Some, None}
+use Rattle.fields.specs.Field.{count_of}
 use Rattle.calendar.specs.declared.Period.{Period}
 use Rattle.calendar.specs.declared.Period.TheVariants as period
 use Rattle.calendar.specs.Periods.{days}
@@ -10,36 +10,32 @@ use Rattle.inventory.specs.declared.Record.{Record}
 use Rattle.lines.specs.Lines.{head_widths, record_widths, before, numbers_of}
 
 abbrev pub and_then : {A B : Type 0} → Option A → (A → Option B) → Option B
-and_then (some x) f = f x
-and_then none f = none
+and_then (Some x) f = f x
+and_then None f = None
 
--- a number without a minus
-abbrev pub count_of : ℤ → Option ℕ
-count_of (pos n) = some n
-count_of (negsuc n) = none
-
+-- numbers without a minus
 unfoldable pub counts_of : List ℤ → Option (List ℕ)
-counts_of [] = some []
+counts_of [] = Some []
 counts_of (z ∷ zs) = before (count_of z) (counts_of zs)
 
 -- what stands behind the temperatures: nothing, or a first and a last day, both without a minus
 abbrev pub period_with : List ℤ → Option Period
-period_with [] = some period.Year
-period_with (first ∷ []) = none
-period_with (first ∷ last ∷ zs) = and_then (count_of first) λ a. and_then (count_of last) λ b. some (period.Days (days a b))
+period_with [] = Some period.Year
+period_with (first ∷ []) = None
+period_with (first ∷ last ∷ zs) = and_then (count_of first) λ a. and_then (count_of last) λ b. Some (period.Days (days a b))
 
 -- a head over a period: L, which stands without a minus, then the temperatures
 abbrev pub head_over : Period → List ℤ → Option Head
-head_over p [] = none
-head_over p (l ∷ ts) = and_then (count_of l) λ n. some (record { trip = n; temps = ts; period = p })
+head_over p [] = None
+head_over p (l ∷ ts) = and_then (count_of l) λ n. Some (record { trip = n; temps = ts; period = p })
 
 -- L and twelve T, then the period
 abbrev pub head_with : List ℤ → Option Head
 head_with zs = and_then (period_with (drop 13 zs)) λ p. head_over p (take 13 zs)
 
 abbrev pub or_else : {A : Type 0} → Option A → Option A → Option A
-or_else (some x) y = some x
-or_else none y = y
+or_else (Some x) y = Some x
+or_else None y = y
 
 -- the head of line 1 in either form, 13 numbers or 15; none where its shape is wrong
 unfoldable pub head_of : List ℕ → Option Head
@@ -63,4 +59,4 @@ record_with ns =
 
 -- the record of another line, none where its shape is wrong
 unfoldable pub record_of : List ℕ → Option Record
-record_of line = and_then (and_then (numbers_of record_widths line) counts_of) λ ns. some (record_with ns)
+record_of line = and_then (and_then (numbers_of record_widths line) counts_of) λ ns. Some (record_with ns)
