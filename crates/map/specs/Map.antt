@@ -1,18 +1,14 @@
 -- The map's rows and figures (SPECIFICATION, "Map").
 -- Assumes nothing.
-use Rattle.std.specs.Prelude.{ℕ, ◌-◌, Bool, not, cond, ◌&&◌, List, [], ◌∷◌, map, eqb, Float}
+use Rattle.std.specs.Prelude.{ℕ, ◌-◌, Bool, not, cond, ◌&&◌, List, [], ◌∷◌, map, eqb, Float, Option, Some, None, Result, Ok, Err}
 use Rattle.units.specs.Grounds.{first_fit}
+use Rattle.units.specs.declared.Refusal.{Refusal}
 use Rattle.units.specs.Refusals.{refusal_number}
 use Rattle.inventory.specs.declared.Run.{Run}
 use Rattle.inventory.specs.declared.Kind.{Kind}
 use Rattle.inventory.specs.declared.Kind.TheVariants.{Urban, Rural, Highway, Cold}
 use Rattle.inventory.specs.Printed.{kind_place, printed_kind, total_grounds}
 use Rattle.map.specs.declared.Row.{Row}
-use Rattle.map.specs.declared.RowAnswer.{RowAnswer}
-use Rattle.map.specs.declared.RowAnswer.TheVariants as rows
-use Rattle.map.specs.declared.Figure.TheVariants.{Grams, NotGiven}
-use Rattle.map.specs.declared.FigureAnswer.{FigureAnswer}
-use Rattle.map.specs.declared.FigureAnswer.TheVariants as figures
 use Rattle.map.specs.Floats.{float_of}
 
 -- the four printed kinds of a fuel and a quantity: urban, rural, highway, cold; both count from 0 here
@@ -26,9 +22,9 @@ pub record RowGiven : Type 0 where
   pub floats : List Float
 
 -- the number and the floats of each case of a row
-unfoldable pub row_answer : RowAnswer → RowGiven
-row_answer (rows.Given row) = record { number = 0; floats = row.urban ∷ row.rural ∷ row.highway ∷ row.cold ∷ [] }
-row_answer (rows.Refused r) = record { number = refusal_number r; floats = [] }
+unfoldable pub row_answer : Result Row Refusal → RowGiven
+row_answer (Ok row) = record { number = 0; floats = row.urban ∷ row.rural ∷ row.highway ∷ row.cold ∷ [] }
+row_answer (Err r) = record { number = refusal_number r; floats = [] }
 
 -- 16, then 11, as for a total; fuel and quantity count from 1 here
 unfoldable pub row_number : Run → ℕ → ℕ → ℕ
@@ -62,11 +58,11 @@ pub record FigureGiven : Type 0 where
   pub given : ℕ
   pub floats : List Float
 
--- the number, the mark and the float of each case of a figure
-unfoldable pub figure_answer : FigureAnswer → FigureGiven
-figure_answer (figures.Given (Grams x)) = record { number = 0; given = 1; floats = x ∷ [] }
-figure_answer (figures.Given NotGiven) = record { number = 0; given = 0; floats = [] }
-figure_answer (figures.Refused r) = record { number = refusal_number r; given = 0; floats = [] }
+-- the number, the mark and the float of each case of a figure, which is a float of grams or, as None, the mark "not given"
+unfoldable pub figure_answer : Result (Option Float) Refusal → FigureGiven
+figure_answer (Ok (Some x)) = record { number = 0; given = 1; floats = x ∷ [] }
+figure_answer (Ok None) = record { number = 0; given = 0; floats = [] }
+figure_answer (Err r) = record { number = refusal_number r; given = 0; floats = [] }
 
 -- the figure is the row's field of that fuel, quantity and kind
 unfoldable pub figure_of : Run → ℕ → ℕ → Kind → FigureGiven

@@ -1,13 +1,15 @@
 // The map's rows of four floats, and one figure.
 #![tactic(auto)]
 
-ghost use Rattle.std.specs.Prelude.{◌≡◌, ◌<◌, ◌^◌};
+ghost use Rattle.std.specs.Prelude.{◌≡◌, ◌<◌, ◌^◌, true};
+ghost use Rattle.inventory.specs.Order.{in_order};
+ghost use Rattle.inventory.specs.Printed.{kind_place, printed_kind};
 ghost use Rattle.map.specs.Floats.{Exactly, AllExact};
 ghost use Rattle.map.specs.Claim.{FigureClaim};
-ghost use Rattle.map.specs.Map.{row_answer, row_of, row_whole, figure_answer, figure_of, figure_whole, field_of};
+ghost use Rattle.map.specs.Map.{row_answer, row_of, row_whole, figure_answer, figure_of, figure_whole, field_of, not_given};
 
 use inventory::{Kind, Run};
-use units::{Grams, Refusal, Verdict};
+use units::{Grams, Refusal};
 
 // The printed kinds of one fuel and quantity, in grams.
 #[repr(C)]
@@ -19,33 +21,22 @@ pub struct Row {
     pub cold: f64,
 }
 
-// A row, or the refusal and no float.
-#[derive(Clone, Copy)]
-pub enum RowAnswer {
-    Given(Row),
-    Refused(Refusal),
-}
-
-// A figure for the map: a float of grams, or the mark "not given".
-#[derive(Clone, Copy)]
-pub enum Figure {
-    Grams(f64),
-    NotGiven,
-}
-
-// A figure, or the refusal and no float.
-#[derive(Clone, Copy)]
-pub enum FigureAnswer {
-    Given(Figure),
-    Refused(Refusal),
-}
-
 // Whole grams as a float, which loses nothing below 2^53.
 fn exact_float(g: Grams) -> f64
     requires { g.0 < 2 ^ 53 }
     ensures { Exactly g.0 result }
 {
     g.0 as f64
+}
+
+// A printed kind of a run in order as a float; fuel and quantity count from 0.
+fn kind_float(run: &Run, fuel: usize, quantity: usize, kind: Kind) -> f64
+    requires order { in_order run.now ≡ true }
+    requires asked { (fuel < 3) × (quantity < 5) }
+    ensures { Exactly (printed_kind run.now fuel quantity (kind_place kind)) result }
+{
+    let j = fuel * 20 + quantity * 4 + totals::kind_place(kind);
+    exact_float(printed::kind_at(run, j))
 }
 
 // The field of a row for a kind.
@@ -60,54 +51,44 @@ fn field_of(row: Row, kind: Kind) -> f64
     }
 }
 
-// The row of a fuel and a quantity.
-pub fn row_of(run: Run, fuel: u64, quantity: u64) -> RowAnswer
-    ensures answer { row_answer result ≡ row_of run fuel quantity }
-    ensures exact { AllExact (row_whole run fuel quantity) (row_answer result).floats }
+// Whether the figures of a fuel and a quantity are not given: PM of fuels 1 and 3.
+#[tactic(auto, unfolding(crate::specs::Map::not_given))]
+fn not_given(fuel: u64, quantity: u64) -> bool
+    ensures { result ≡ not_given fuel quantity }
 {
-    let v = totals::question_verdict(run, fuel, quantity);
-    match v {
-        Verdict::Refused(x) => {
-            return RowAnswer::Refused(x);
-        }
-        Verdict::Taken => {}
-    }
-    let j = (fuel as usize - 1) * 20 + (quantity as usize - 1) * 4;
-    let u = printed::kind_at(run, j);
-    let r = printed::kind_at(run, j + 1);
-    let h = printed::kind_at(run, j + 2);
-    let c = printed::kind_at(run, j + 3);
-    RowAnswer::Given(Row {
-        urban: exact_float(u),
-        rural: exact_float(r),
-        highway: exact_float(h),
-        cold: exact_float(c),
+    quantity == 4 && fuel != 2
+}
+
+// The row of a fuel and a quantity.
+pub fn row_of(run: &Run, fuel: u64, quantity: u64) -> Result<Row, Refusal>
+    ensures answer { row_answer result ≡ row_of run.now fuel quantity }
+    ensures exact { AllExact (row_whole run.now fuel quantity) (row_answer result).floats }
+{
+    totals::question_verdict(run, fuel, quantity)?;
+    let f = fuel as usize - 1;
+    let q = quantity as usize - 1;
+    Ok(Row {
+        urban: kind_float(run, f, q, Kind::Urban),
+        rural: kind_float(run, f, q, Kind::Rural),
+        highway: kind_float(run, f, q, Kind::Highway),
+        cold: kind_float(run, f, q, Kind::Cold),
     })
 }
 
-// One figure for the map: not given for PM of fuels 1 and 3.
-pub fn figure_of(run: Run, fuel: u64, quantity: u64, kind: Kind) -> FigureAnswer
-    ensures answer { figure_answer result ≡ figure_of run fuel quantity kind }
-    ensures exact { AllExact (figure_whole run fuel quantity kind) (figure_answer result).floats }
+// One figure for the map: a float of grams, or None, the mark "not given".
+pub fn figure_of(run: &Run, fuel: u64, quantity: u64, kind: Kind) -> Result<Option<f64>, Refusal>
+    ensures answer { figure_answer result ≡ figure_of run.now fuel quantity kind }
+    ensures exact { AllExact (figure_whole run.now fuel quantity kind) (figure_answer result).floats }
 {
-    let a = row_of(run, fuel, quantity);
-    match a {
-        RowAnswer::Refused(x) => {
-            return FigureAnswer::Refused(x);
-        }
-        RowAnswer::Given(row) => {
-            if quantity == 4 {
-                if fuel != 2 {
-                    return FigureAnswer::Given(Figure::NotGiven);
-                }
-                return FigureAnswer::Given(Figure::Grams(field_of(row, kind)));
-            }
-            return FigureAnswer::Given(Figure::Grams(field_of(row, kind)));
-        }
+    let row = row_of(run, fuel, quantity)?;
+    if not_given(fuel, quantity) {
+        return Ok(None);
     }
+    Ok(Some(field_of(row, kind)))
 }
 
 // Does nothing: its contract is that a figure is the row's field.
+#[tactic(auto, using(crate::proofs::Claim::figure_claim))]
 pub fn figure_claim()
     ensures { FigureClaim }
 {}
