@@ -8,23 +8,22 @@ ghost use Rattle.text.specs.Render.{glyph_of, render};
 fn glyph(n: u64) -> u8
     ensures { result ≡ glyph_of n }
 {
-    if n == 0 { 32 } else { 48 + (n % 10) as u8 }
+    if n == 0 { b' ' } else { b'0' + (n % 10) as u8 }
 }
 
 // Fills the field with the number.
+#[tactic(auto, using(crate::proofs::Write::empty, crate::proofs::Write::turn))]
 pub fn write_number(f: &mut [u8], n: u64)
     ensures { f.new ≡ render (length f.old) n }
 {
-    let mut i = f.len();
-    if i == 0 {
+    if f.is_empty() {
         return;
     }
-    i -= 1;
-    f[i] = 48 + (n % 10) as u8;
+    let last = f.len() - 1;
+    f[last] = b'0' + (n % 10) as u8;
     let mut m = n / 10;
-    while 0 < i {
-        i -= 1;
+    for i in (0..last).rev() {
         f[i] = glyph(m);
-        m = m / 10;
+        m /= 10;
     }
 }

@@ -1,12 +1,11 @@
 -- Laws of stores one behind the other. Assumes nothing.
-use Prim.Native.Nat.{ℕ, suc, ◌+◌, ◌-◌, ◌≤◌, ◌<◌}
+use Prim.Native.Nat.{ℕ, suc, ◌+◌, ◌-◌, ◌≤◌}
 use mathlib.Core.Path.{◌≡◌, sym, ap, ◌∙◌}
 use mathlib.Core.List.{List, [], ◌∷◌, ◌++◌, append_assoc}
 use native.Mathlib.Nat.{add-zero}
-use native.Mathlib.Numerals.{add-one}
 use native.Mathlib.Omega.{arith}
-use lib.ListN.{length, take, drop, set, get_or, length-append}
-use lib.Seq.{sets, sets-eq, drop-cons, drop-drop}
+use lib.ListN.{length, take, drop, set, length-append}
+use lib.Seq.{sets, sets-eq, drop-drop}
 
 -- two runs of stores, one behind the other, are one
 pub sets_append : (l : List ℕ) (at : ℕ) (u v : List ℕ) → sets l at (u ++ v) ≡ sets (sets l at u) (at + length u) v
@@ -14,12 +13,6 @@ sets_append l at [] v = rw add-zero
 sets_append l at (x ∷ u) v =
     let e : suc at + length u ≡ at + suc (length u) = omega arith in
     sets_append (set l at x) (suc at) u v ∙ ap (λ (k : ℕ). sets (sets (set l at x) (suc at) u) k v) e
-
--- a turn of a loop that copies s
-pub copied : (b s : List ℕ) (at i : ℕ) → i < length s → sets (set b (at + i) (get_or s i 0)) (at + (i + 1)) (drop (i + 1) s) ≡ sets b (at + i) (drop i s)
-copied b s at i h =
-    let e : at + (i + 1) ≡ suc (at + i) = omega arith in
-    rw (e, add-one, drop-cons s i 0)
 
 -- a part that comes back, as a run of stores
 pub part_back : (b x : List ℕ) (at w : ℕ) → length x ≡ w → at + w ≤ length b → take at b ++ (x ++ drop (at + w - at) (drop at b)) ≡ sets b at x

@@ -10,8 +10,7 @@ pub fn number_at(b: &mut [u8], at: usize, w: usize, n: u64)
     requires { at + w ≤ length b.old }
     ensures { b.new ≡ sets b.old at (render w n) }
 {
-    let e = at + w;
-    text::write_number(&mut b[at..e], n);
+    text::write_number(&mut b[at..at + w], n);
 }
 
 // Bytes at a position.
@@ -19,9 +18,5 @@ pub fn bytes_at(b: &mut [u8], at: usize, s: &[u8])
     requires { at + length s.now ≤ length b.old }
     ensures { b.new ≡ sets b.old at s.now }
 {
-    let mut i = 0;
-    while i < s.len() {
-        b[at + i] = s[i];
-        i += 1;
-    }
+    b[at..at + s.len()].copy_from_slice(s);
 }

@@ -1,13 +1,7 @@
--- What the loops of `text::write_number` keep. Assumes nothing.
-use Prim.Native.Nat.{◌≤◌}
-use mathlib.Core.Path.{◌≡◌}
-use mathlib.Core.List.{◌++◌}
-use lib.ListN.{length, drop}
-use Rattle.text.specs.Render.{pad}
+-- What the loop of `text::write_number` keeps. Assumes nothing.
+use Rattle.std.proofs.Common.{◌≡◌, ◌++◌, length, drop}
+use Rattle.text.specs.Render.{pad, render}
 use Rattle.text.proofs.write_number.Given as goal
 
 abbrev pub invariant-loop-i : goal.invariant-loop-i
-invariant-loop-i l = (l.i ≤ length l.f) × (length l.f ≡ length l.initial.f) × (pad l.i l.m ++ drop l.i l.f ≡ pad l.initial.i l.initial.m ++ drop l.initial.i l.initial.f)
-
-abbrev pub decreases-loop-i : goal.decreases-loop-i
-decreases-loop-i l = l.i
+invariant-loop-i l = (length l.f ≡ length l.fn.f) × (pad l.i l.m ++ drop l.i l.f ≡ render (length l.fn.f) l.n)

@@ -1,9 +1,0 @@
--- `text::glyph` meets its contract. Assumes nothing.
-use borrow.Author.Tests.{eq-eqb, ne_eqb}
-use Rattle.text.proofs.glyph.Goals as goal
-
-pub returns-then-n-eq0 : goal.returns-then-n-eq0
-returns-then-n-eq0 c = simp (eq-eqb _ _ c.if-n-eq0.true)
-
-pub returns-else-n-eq0 : goal.returns-else-n-eq0
-returns-else-n-eq0 c = simp (ne_eqb _ _ c.if-n-eq0.false)
