@@ -7,10 +7,9 @@ use native.Mathlib.Omega.{arith}
 use lib.Dec.{eqb, leb}
 use borrow.Author.Tests.{lt-leb, le-leb, leb-false, eqb-true, eqb-false}
 use Rattle.units.specs.declared.Refusal.{Refusal}
-use Rattle.units.specs.declared.Verdict.{Verdict}
-use Rattle.units.specs.declared.Verdict.TheVariants.{Taken, Refused}
 use Rattle.units.specs.Grounds.{first_fit}
-use Rattle.units.specs.Refusals.{refusal_number, verdict_number}
+use Rattle.std.specs.Prelude.{Result, Ok, Err}
+use Rattle.units.specs.Refusals.{refusal_number, answer_number}
 use Rattle.units.proofs.Refusals.{number_positive, taken_number, refused_number}
 use Rattle.classes.specs.Classes.{fuel_of}
 use Rattle.coldstart.specs.ColdStart.{cold_values}
@@ -18,16 +17,15 @@ use Rattle.inventory.specs.declared.Head.{Head}
 use Rattle.inventory.specs.declared.Record.{Record}
 use Rattle.inventory.specs.declared.Run.{Run}
 use Rattle.inventory.specs.Records.{head_grounds, record_grounds}
-use Rattle.inventory.specs.Order.{in_order}
+use Rattle.inventory.specs.Order.{sum_at, exact_total, in_order}
 use Rattle.inventory.specs.Limits.{RecordLimits, RunLimits}
-use Rattle.inventory.proofs.Kept.{total_other, order_with}
+use Rattle.inventory.proofs.Kept.{total_other, order_with, order_kept}
 use Rattle.inventory.proofs.Order.{run_limits, total_of_lem}
 use Rattle.inventory.proofs.Records.{record_then}
 use Rattle.inventory.proofs.Runs.{limits_before}
 use Rattle.inventory.specs.Opening.{empty_run, fresh_run, zero_run, open_number, open_run}
-use Rattle.inventory.specs.Adding.{raised, run_with, ordered_grounds, add_grounds, add_number, add_run}
-use Rattle.run_totals.specs.Between.{of_amounts, KeptOutside}
-use Rattle.run_totals.proofs.Totals.{amounts_limits, amounts_kept}
+use Rattle.inventory.specs.Adding.{slot_after, km_after, total_made, with_totals, raised, run_with, ordered_grounds, raised_run, add_grounds, add_number, add_run}
+use Rattle.run_totals.specs.Between.{KeptOutside}
 use Rattle.accuracy.specs.Claim.{run_after}
 use Rattle.accuracy.proofs.Whole.{every_list}
 
@@ -77,15 +75,15 @@ module _ (count : ℕ) (rec : Record) where
   in_turn : first_fit (ordered_grounds count rec) ≡ cond (eqb (first_fit (record_grounds rec)) 0) (cond (leb 5000 count) 9 0) (first_fit (record_grounds rec))
   in_turn = record_then rec 9 (leb 5000 count)
 
-  pub add_refused : (v : Verdict) (r : Refusal) → v ≡ Refused r → verdict_number v ≡ first_fit (record_grounds rec)
-      → refusal_number r ≡ first_fit (ordered_grounds count rec)
-  add_refused v r e h = rw (in_turn, refused_number v r _ e h, number_positive r)
+  module _ {A : Type 0} (v : Result A Refusal) (h : answer_number v ≡ first_fit (record_grounds rec)) where
+    pub add_refused : (r : Refusal) → v ≡ Err r → refusal_number r ≡ first_fit (ordered_grounds count rec)
+    add_refused r e = rw (in_turn, refused_number v r _ e h, number_positive r)
 
-  pub add_full : (v : Verdict) → v ≡ Taken → verdict_number v ≡ first_fit (record_grounds rec) → 5000 ≤ count → 9 ≡ first_fit (ordered_grounds count rec)
-  add_full v e h n = rw (in_turn, taken_number v _ e h, le-leb 5000 count n)
+    pub add_full : (x : A) → v ≡ Ok x → 5000 ≤ count → 9 ≡ first_fit (ordered_grounds count rec)
+    add_full x e n = rw (in_turn, taken_number v x _ e h, le-leb 5000 count n)
 
-  pub add_good : (v : Verdict) → v ≡ Taken → verdict_number v ≡ first_fit (record_grounds rec) → count < 5000 → 0 ≡ first_fit (ordered_grounds count rec)
-  add_good v e h n = rw (in_turn, taken_number v _ e h, lt-leb 5000 count n)
+    pub add_good : (x : A) → v ≡ Ok x → count < 5000 → 0 ≡ first_fit (ordered_grounds count rec)
+    add_good x e n = rw (in_turn, taken_number v x _ e h, lt-leb 5000 count n)
 
 module _ (run : Run) (rec : Record) where
   pub add_unordered : in_order run ≡ false → 16 ≡ add_number run rec
@@ -127,14 +125,6 @@ module _ (run : Run) (rec : Record) where
     others_kept fuel e =
         record { kept = λ k h o. total_other run rec k h (λ z. let y : k / 5 ≡ fuel = z ∙ sym e in o (omega arith) (omega arith)) (total_of_lem run order k h) }
 
-    -- the same of its amounts alone
-    module _ (p : Run) (e : p ≡ raised run rec) where
-      pub amounts_in : RecordLimits rec → run.count < 5000 → RunLimits (of_amounts p.grams p.rests p.total_grams p.total_rests)
-      amounts_in lim room = amounts_limits p _ _ (subst RunLimits (sym e) (raised_limits lim room))
-
-      pub amounts_others : (fuel : ℕ) → fuel ≡ fuel_of rec.class → KeptOutside (of_amounts p.grams p.rests p.total_grams p.total_rests) (fuel * 5) (fuel * 5 + 5)
-      amounts_others fuel f = amounts_kept p _ _ (subst (λ r. KeptOutside r (fuel * 5) (fuel * 5 + 5)) (sym e) (others_kept fuel f))
-
   pub run_kept : (n : ℕ) → n ≡ add_number run rec → eqb n 0 ≡ false → run ≡ add_run run rec
   unfolding add_run
   run_kept n e h = rw (← e, h)
@@ -142,3 +132,36 @@ module _ (run : Run) (rec : Record) where
   pub run_added : add_number run rec ≡ 0 → run_with run rec ≡ add_run run rec
   unfolding add_run
   run_added e = rw e
+
+-- ---- adding where the totals are made later
+
+module _ (run : Run) (rec : Record) where
+  -- the totals of a run do not count in what an add does to the rest
+  pub raised_first : with_totals (raised run rec) ≡ run_with (with_totals run) rec
+  unfolding run_with with_totals raised total_made exact_total sum_at slot_after km_after
+  raised_first = refl
+
+  pub raised_taken : first_fit (ordered_grounds run.count rec) ≡ 0 → raised run rec ≡ raised_run run rec
+  unfolding raised_run
+  raised_taken z = rw z
+
+  pub raised_refused : (n : ℕ) → n ≡ first_fit (ordered_grounds run.count rec) → eqb n 0 ≡ false → run ≡ raised_run run rec
+  unfolding raised_run
+  raised_refused n e h = rw (← e, h)
+
+  module _ (order : in_order (with_totals run) ≡ true) where
+    pub raised_number : first_fit (ordered_grounds run.count rec) ≡ add_number (with_totals run) rec
+    unfolding with_totals
+    raised_number = add_ordered (with_totals run) rec order
+
+    by : (b : Bool) → eqb (first_fit (ordered_grounds run.count rec)) 0 ≡ b
+        → with_totals (cond b (raised run rec) run) ≡ cond b (run_with (with_totals run) rec) (with_totals run)
+    by true e = raised_first
+    by false e = refl
+
+    pub raised_added : with_totals (raised_run run rec) ≡ add_run (with_totals run) rec
+    unfolding raised_run add_run
+    raised_added = rw (← raised_number) (by (eqb (first_fit (ordered_grounds run.count rec)) 0) refl)
+
+    pub raised_order : in_order (with_totals (raised_run run rec)) ≡ true
+    raised_order = rw raised_added (order_kept (with_totals run) rec order)
