@@ -8,8 +8,9 @@ use lib.Dec.{eqb, leb}
 use borrow.Author.Tests.{lt-leb, le-leb, leb-false, eqb-true, eqb-false}
 use Rattle.units.specs.declared.Refusal.{Refusal}
 use Rattle.units.specs.Grounds.{first_fit}
-use Rattle.std.specs.Prelude.{Result, Ok, Err}
+use Rattle.std.specs.Prelude.{Result, Ok, Err, IsErrAnd}
 use Rattle.units.specs.Refusals.{refusal_number, answer_number}
+use Rattle.units.proofs.Passed.{passed_up}
 use Rattle.units.proofs.Refusals.{number_positive, taken_number, refused_number}
 use Rattle.classes.specs.Classes.{fuel_of}
 use Rattle.coldstart.specs.ColdStart.{cold_values}
@@ -23,10 +24,13 @@ use Rattle.inventory.proofs.Kept.{total_other, order_with, order_kept}
 use Rattle.inventory.proofs.Order.{run_limits, total_of_lem}
 use Rattle.inventory.proofs.Records.{record_then}
 use Rattle.inventory.proofs.Runs.{limits_before}
-use Rattle.inventory.specs.Opening.{empty_run, fresh_run, zero_run, open_number, open_run}
+use Rattle.inventory.specs.Opening.{empty_run, fresh_run, zero_run, open_number, open_run, given_run}
 use Rattle.inventory.specs.Adding.{slot_after, km_after, total_made, with_totals, raised, run_with, ordered_grounds, raised_run, add_grounds, add_number, add_run}
-use Rattle.run_totals.specs.Between.{KeptOutside}
-use Rattle.accuracy.specs.Claim.{run_after}
+use Rattle.kilometres.specs.Parts.{with_km}
+use Rattle.sums.specs.Parts.{with_sums}
+use Rattle.run_totals.specs.Between.{of_amounts, KeptOutside}
+use Rattle.run_totals.proofs.Totals.{amounts_limits}
+use Rattle.accuracy.specs.Claim.{run_after, EveryList}
 use Rattle.accuracy.proofs.Whole.{every_list}
 
 -- ---- opening
@@ -37,11 +41,29 @@ module _ (head : Head) where
   unfolding open_number
   open_by n e = e
 
-  -- the run of a head that is refused, and of one that is taken
-  pub run_refused : (n : ℕ) → open_number head ≡ n → eqb n 0 ≡ false → zero_run ≡ open_run head
-  unfolding open_run
-  run_refused n e h = rw (e, h)
+  -- the answer that passes up the refusal of the head
+  module _ {A : Type 0} (v : Result A Refusal) (h : answer_number v ≡ first_fit (head_grounds head)) where
+    refused_as : (r : Refusal) → v ≡ Err r → open_number head ≡ refusal_number r
+    unfolding open_number
+    refused_as r e = refused_number v r _ e h
 
+    module _ (answer : Result Run Refusal) (r : Refusal) (is : IsErrAnd answer (λ y. y ≡ r)) (e : v ≡ Err r) where
+      pub open_passed : answer_number answer ≡ open_number head
+      unfolding answer_number
+      open_passed = rw (passed_up answer r is) (sym (refused_as r e))
+
+      pub zeros_passed : given_run answer ≡ open_run head
+      unfolding given_run open_run
+      zeros_passed = rw (passed_up answer r is, refused_as r e, number_positive r)
+
+      pub none_opened : answer_number answer ≡ 0 → EveryList head
+      none_opened z = every_list head (sym open_passed ∙ z)
+
+    pub opened_ok : (x : A) → v ≡ Ok x → open_number head ≡ 0
+    unfolding open_number
+    opened_ok x e = taken_number v x _ e h
+
+  -- the run of a head that is taken
   pub run_opened : open_number head ≡ 0 → fresh_run head ≡ open_run head
   unfolding open_run
   run_opened e = rw e
@@ -78,6 +100,11 @@ module _ (count : ℕ) (rec : Record) where
   module _ {A : Type 0} (v : Result A Refusal) (h : answer_number v ≡ first_fit (record_grounds rec)) where
     pub add_refused : (r : Refusal) → v ≡ Err r → refusal_number r ≡ first_fit (ordered_grounds count rec)
     add_refused r e = rw (in_turn, refused_number v r _ e h, number_positive r)
+
+    pub add_passed : {B : Type 0} (answer : Result B Refusal) (r : Refusal) → IsErrAnd answer (λ y. y ≡ r) → v ≡ Err r
+        → answer_number answer ≡ first_fit (ordered_grounds count rec)
+    unfolding answer_number
+    add_passed answer r is e = rw (passed_up answer r is) (add_refused r e)
 
     pub add_full : (x : A) → v ≡ Ok x → 5000 ≤ count → 9 ≡ first_fit (ordered_grounds count rec)
     add_full x e n = rw (in_turn, taken_number v x _ e h, le-leb 5000 count n)
@@ -125,6 +152,16 @@ module _ (run : Run) (rec : Record) where
     others_kept fuel e =
         record { kept = λ k h o. total_other run rec k h (λ z. let y : k / 5 ≡ fuel = z ∙ sym e in o (omega arith) (omega arith)) (total_of_lem run order k h) }
 
+  -- the refusal of an add passed up
+  module _ {A : Type 0} (v : Result A Refusal) (answer : Result A Refusal) (r : Refusal) (is : IsErrAnd answer (λ y. y ≡ r)) (e : v ≡ Err r)
+      (n : ℕ) (h : answer_number v ≡ n) where
+    pub number_passed : answer_number answer ≡ n
+    unfolding answer_number
+    number_passed = rw (passed_up answer r is) (sym (refused_number v r n e h))
+
+    pub passed_positive : eqb n 0 ≡ false
+    passed_positive = rw (refused_number v r n e h) (number_positive r)
+
   pub run_kept : (n : ℕ) → n ≡ add_number run rec → eqb n 0 ≡ false → run ≡ add_run run rec
   unfolding add_run
   run_kept n e h = rw (← e, h)
@@ -134,6 +171,11 @@ module _ (run : Run) (rec : Record) where
   run_added e = rw e
 
 -- ---- adding where the totals are made later
+
+-- a run with a record in its sums, then in its kilometres, then in its count
+pub raised_parts : (old : Run) (rec : Record) (a b : Run) → a ≡ with_sums old rec → b ≡ with_km a rec → record b { count = b.count + 1 } ≡ raised old rec
+unfolding raised km_after
+raised_parts old rec a b e f = rw (f, e)
 
 module _ (run : Run) (rec : Record) where
   -- the totals of a run do not count in what an add does to the rest
