@@ -10,7 +10,9 @@ use lib.ListN.{length, get_or}
 use lib.Dec.{ltb}
 use borrow.Author.Tests.{lt-ltb, le-ltb}
 use Rattle.units.proofs.Sums.{le_or_lt}
-use Rattle.units.proofs.Tab.{tab_at, tab_length, tab_of}
+use Rattle.std.specs.List.{between}
+use Rattle.std.proofs.lemmas.List.Edits.{get_or-between}
+use Rattle.units.proofs.Tab.{tab_at, tab_length, tab_of, tab_alike}
 use Rattle.classes.specs.Classes.{x_count}
 use Rattle.inventory.specs.declared.Run.{Run}
 use Rattle.inventory.specs.Limits.{Shaped}
@@ -145,6 +147,26 @@ module _ (numbers : List ℕ) (at k : ℕ) (h : k < run_size) where
       (λ b. either 18 (read_count b)
       (λ d. either 21 (read_km d)
       (λ e. either 81 (read_grams e) (λ f. either 141 (read_rest f) (λ g. either 156 (read_total-grams g) read_total_rest))))))
+
+-- the run of a part of the numbers is the run at its place
+pub run_between : (numbers : List ℕ) (at to : ℕ) → to ≡ at + 171 → run_at (between at to numbers) 0 ≡ run_at numbers at
+unfolding run_at
+run_between numbers at to e =
+    let part : (k : ℕ) → k < 171 → get_or (between at to numbers) k 0 ≡ get_or numbers (at + k) 0 = λ k h. get_or-between numbers at to k 0 (omega arith) in
+    let step : (lo k : ℕ) → lo + k < 171 → get_or (between at to numbers) (lo + k) 0 ≡ get_or numbers (at + lo + k) 0 =
+    λ lo k h. let z : at + (lo + k) ≡ at + lo + k = omega arith in part (lo + k) h ∙ ap (λ j. get_or numbers j 0) z in
+    let p = between at to numbers in
+    let first : get_or p 0 0 ≡ get_or numbers at 0 = let z : at + 0 ≡ at = omega arith in part 0 (omega arith) ∙ ap (λ j. get_or numbers j 0) z in
+    rw (
+      first,
+      tab_alike (number_at p 1) (number_at numbers (at + 1)) x_count (λ k h. step 1 k (omega arith)),
+      part 17 (omega arith),
+      tab_alike (km_at p 18) (km_at numbers (at + 18)) 3 (λ k h. as_km (step 18 k (omega arith))),
+      tab_alike (grams_at p 21) (grams_at numbers (at + 21)) 60 (λ k h. as_grams (step 21 k (omega arith))),
+      tab_alike (number_at p 81) (number_at numbers (at + 81)) 60 (λ k h. step 81 k (omega arith)),
+      tab_alike (grams_at p 141) (grams_at numbers (at + 141)) 15 (λ k h. as_grams (step 141 k (omega arith))),
+      tab_alike (number_at p 156) (number_at numbers (at + 156)) 15 (λ k h. step 156 k (omega arith)),
+    )
 
 -- ---- areas told back from their numbers
 
