@@ -2,24 +2,21 @@
 #![tactic(auto)]
 
 ghost use Rattle.std.specs.Prelude.{◌≡◌};
-ghost use Rattle.units.specs.Refusals.{verdict_number};
+ghost use Rattle.units.specs.Refusals.{answer_number};
 ghost use Rattle.harness_adds.specs.Adds.{add_times, last_number};
 
-use inventory::{Added, Record, Run};
-use units::Verdict;
+use inventory::{Record, Run};
+use units::Refusal;
 
-// The run after the record was added so many times, and the verdict of the last add.
-pub fn add_times(run: Run, rec: Record, times: u64) -> Added
-    ensures { (result.run ≡ add_times times run rec) × (verdict_number result.verdict ≡ last_number times run rec) }
+// Adds the record so many times, and gives what the last add gave.
+#[tactic(auto, unfolding(crate::specs::Adds::add_times, crate::specs::Adds::last_number, units::specs::Refusals::answer_number))]
+pub fn add_times(run: &mut Run, rec: Record, times: u64) -> Result<(), Refusal>
+    ensures run { run.new ≡ add_times times run.old rec }
+    ensures number { answer_number result ≡ last_number times run.old rec }
 {
-    let mut a = Added {
-        run,
-        verdict: Verdict::Taken,
-    };
-    let mut i: u64 = 0;
-    while i < times {
-        a = recording::add(a.run, rec);
-        i += 1;
+    let mut last = Ok(());
+    for _i in 0..times {
+        last = recording::add(run, rec);
     }
-    a
+    last
 }
