@@ -5,37 +5,33 @@ ghost use Rattle.std.specs.Prelude.{◌≡◌, ◌<◌};
 ghost use Rattle.classes.specs.Classes.{fuel_of, has_cold, x_place};
 
 // The fuel of a class: 0 gasoline, 1 diesel, 2 LPG.
+#[tactic(auto, unfolding(crate::specs::Classes::fuel_of))]
 pub fn fuel_of(class: u64) -> usize
     ensures { result ≡ fuel_of class }
 {
-    if 6 <= class {
-        return 1;
+    match class {
+        4 => 2,
+        6.. => 1,
+        _ => 0,
     }
-    if class == 4 {
-        return 2;
-    }
-    0
 }
 
 // Whether a class has a cold part.
+#[tactic(auto, unfolding(crate::specs::Classes::has_cold))]
 pub fn has_cold(class: u64) -> bool
     ensures { result ≡ has_cold class }
 {
-    if class == 5 {
-        return false;
-    }
-    true
+    class != 5
 }
 
 // The place of the X of a class and a quantity in a run.
+#[tactic(auto, using(crate::proofs::Classes::fuel_below), unfolding(crate::specs::Classes::x_place, crate::specs::Classes::has_own_x))]
 pub fn x_place(class: u64, quantity: usize) -> usize
     requires { quantity < 5 }
     ensures { result ≡ x_place class quantity }
 {
-    if class == 3 {
-        if quantity == 0 {
-            return 15;
-        }
+    if class == 3 && quantity == 0 {
+        return 15;
     }
     fuel_of(class) * 5 + quantity
 }
