@@ -9,7 +9,7 @@ ghost use Rattle.book_lines.specs.Lines.{line_of, page_of};
 
 mod entries; // entries.rt: the constant BOOK
 
-use units::Speed;
+use units::{Speed, Speeds};
 
 // The constant is the book: the one place that names it, and the one test of its 3,630 entries.
 fn factor_book() -> [u64; 3630]
@@ -56,32 +56,29 @@ fn line_of(class: u64, v: Speed) -> [u64; 5]
 }
 
 // The speed on a road.
-fn speed_on(road: usize, urban: Speed, rural: Speed, highway: Speed) -> Speed
+fn speed_on(road: usize, speeds: Speeds) -> Speed
     requires { road < 3 }
-    ensures { result.0 ≡ get_or (urban.0 ∷ rural.0 ∷ highway.0 ∷ []) road 0 }
+    ensures { result.0 ≡ get_or (speeds.urban.0 ∷ speeds.rural.0 ∷ speeds.highway.0 ∷ []) road 0 }
 {
     match road {
-        0 => urban,
-        1 => rural,
-        _ => highway,
+        0 => speeds.urban,
+        1 => speeds.rural,
+        _ => speeds.highway,
     }
 }
 
 // The 15 factors of a class: 5 quantities of 3 roads, each road at its own speed; class 5 is not in the book. The loop keeps
 // `line_of` at one call, so that the compiler inlines it.
-pub fn factors_of(class: u64, urban: Speed, rural: Speed, highway: Speed) -> [u64; 15]
-    requires { Driven class urban.0 × Driven class rural.0 × Driven class highway.0 }
-    ensures { result ≡ tab (factor_at class urban.0 rural.0 highway.0) 15 }
+pub fn factors_of(class: u64, speeds: Speeds) -> [u64; 15]
+    requires { Driven class speeds.urban.0 × Driven class speeds.rural.0 × Driven class speeds.highway.0 }
+    ensures { result ≡ tab (factor_at class speeds.urban.0 speeds.rural.0 speeds.highway.0) 15 }
 {
     if class == 5 {
         return factors::two_stroke();
     }
     let mut lines = [[0u64; 5]; 3];
-    let mut road: usize = 0;
-    while road < 3 {
-        let line = line_of(class, speed_on(road, urban, rural, highway));
-        lines[road] = line;
-        road += 1;
+    for road in 0..3 {
+        lines[road] = line_of(class, speed_on(road, speeds));
     }
     let u = lines[0];
     let r = lines[1];

@@ -5,17 +5,15 @@ ghost use Rattle.std.specs.Prelude.{◌≡◌, ◌<◌};
 ghost use Rattle.book_entries.specs.Book.{class_at, entry_of};
 ghost use Rattle.book_entries.specs.Claim.{BookClaim};
 
-use units::Speed;
+use units::{Speed, Speeds};
 
 // The class at a place of the book.
+#[tactic(auto, using(crate::proofs::Book::first_four, crate::proofs::Book::last_two))]
 fn class_at(place: u64) -> u64
     requires { place < 6 }
     ensures { result ≡ class_at place }
 {
-    if place < 4 {
-        return place + 1;
-    }
-    place + 2
+    if place < 4 { place + 1 } else { place + 2 }
 }
 
 // Entry i, from its curve.
@@ -26,7 +24,12 @@ pub fn entry_of(i: u64) -> u64
     let class = class_at(i / 605);
     let quantity = (i / 121 % 5) as usize;
     let v = 10 + i % 121;
-    let e = factors::curve_factors(class, Speed(v), Speed(v), Speed(v));
+    let on_any_road = Speeds {
+        urban: Speed(v),
+        rural: Speed(v),
+        highway: Speed(v),
+    };
+    let e = factors::curve_factors(class, on_any_road);
     e[quantity * 3]
 }
 

@@ -5,10 +5,8 @@
 use std::io;
 
 fn main(rt: HostRuntime) -> io::Result<()> {
-    let mut i: u64 = 0;
-    while i < 3630 {
+    for i in 0..3630 {
         println!(rt; "{}", book_entries::entry_of(i))?;
-        i += 1;
     }
     Ok(())
 }

@@ -11,20 +11,20 @@ pub returns-then-class-eq5 : goal.returns-then-class-eq5
 returns-then-class-eq5 c = c.two_stroke.ensures ∙ two_stroke_lem _ _ _ _ c.if-class-eq5.true
 
 pub loop-road-init : goal.loop-road-init
-loop-road-init c = (omega arith, filled_none _ _ _ refl)
+loop-road-init c = filled_none _ _ _ refl
 
-pub line_of-line-requires : goal.line_of-line-requires
-line_of-line-requires c =
+pub line_of-requires : goal.line_of-requires
+line_of-requires c =
     record {
       driven = rw c.speed_on.ensures (roads _ _ _ _ c.requires.0 c.requires.1 c.requires.2 c.loop-road.road (omega arith));
       fact = c.if-class-eq5.false;
     }
 
 pub loop-road-preserved : goal.loop-road-preserved
-loop-road-preserved c = (omega arith, filled_more _ c.loop-road.invariant.1 (omega arith) (rw c.speed_on.ensures at c.line_of-line.ensures))
+loop-road-preserved c = filled_more _ c.loop-road.invariant (omega arith) (rw c.speed_on.ensures at c.line_of.ensures)
 
 pub returns : goal.returns
 unfolding tab
 returns c =
-    let lines = filled c.loop-road.invariant.1 (omega arith) (omega arith) in
+    let lines = filled c.loop-road.invariant (omega arith) (omega arith) in
     lines_factors c.args.class _ _ _ _ c.requires.0 c.requires.1 c.requires.2 c.if-class-eq5.false lines
