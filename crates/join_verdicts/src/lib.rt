@@ -17,6 +17,7 @@ fn same_head(a: &Run, b: &Run) -> bool
 }
 
 // Whether a join is refused: 16 of either run, then 21, then 22.
+#[tactic(auto, using(inventory::proofs::Order::count_of, joins::proofs::Laws::first_unordered, joins::proofs::Laws::second_unordered, joins::proofs::Laws::heads_differ_lem, joins::proofs::Laws::too_many, joins::proofs::Laws::good_join), unfolding(units::specs::Refusals::answer_number, units::specs::Refusals::refusal_number))]
 pub fn join_verdict(a: &Run, b: &Run) -> Result<(), Refusal>
     ensures { answer_number result ≡ join_number a.now b.now }
 {

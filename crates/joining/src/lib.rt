@@ -15,6 +15,7 @@ fn add_up(run: &mut Run, other: &Run)
     requires total_limits { TotalLimits run.old × TotalLimits other.now }
     ensures { run.new ≡ joined run.old other.now }
 {
+    run.shaped();
     run.count += other.count;
     for fuel in 0..3 {
         run.km[fuel] = VehicleKm(run.km[fuel].0 + other.km[fuel].0);

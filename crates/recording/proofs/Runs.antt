@@ -152,16 +152,6 @@ module _ (run : Run) (rec : Record) where
     others_kept fuel e =
         record { kept = λ k h o. total_other run rec k h (λ z. let y : k / 5 ≡ fuel = z ∙ sym e in o (omega arith) (omega arith)) (total_of_lem run order k h) }
 
-  -- the refusal of an add passed up
-  module _ {A : Type 0} (v : Result A Refusal) (answer : Result A Refusal) (r : Refusal) (is : IsErrAnd answer (λ y. y ≡ r)) (e : v ≡ Err r)
-      (n : ℕ) (h : answer_number v ≡ n) where
-    pub number_passed : answer_number answer ≡ n
-    unfolding answer_number
-    number_passed = rw (passed_up answer r is) (sym (refused_number v r n e h))
-
-    pub passed_positive : eqb n 0 ≡ false
-    passed_positive = rw (refused_number v r n e h) (number_positive r)
-
   pub run_kept : (n : ℕ) → n ≡ add_number run rec → eqb n 0 ≡ false → run ≡ add_run run rec
   unfolding add_run
   run_kept n e h = rw (← e, h)

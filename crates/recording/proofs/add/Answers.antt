@@ -1,9 +1,10 @@
 -- `recording::add` meets its contract. Assumes nothing.
 use mathlib.Core.Path.{refl, sym, ◌∙◌}
 use Rattle.units.specs.Refusals.{answer_number, refusal_number}
+use Rattle.units.proofs.Passed.{number_passed, passed_positive}
 use Rattle.units.proofs.Refusals.{taken_number}
 use Rattle.inventory.proofs.Records.{record_limits}
-use Rattle.recording.proofs.Runs.{add_unordered, add_ordered, number_passed, passed_positive, ready, run_kept, run_added}
+use Rattle.recording.proofs.Runs.{add_unordered, add_ordered, ready, run_kept, run_added}
 use Rattle.recording.proofs.add.Goals as goal
 
 pub returns-then-not-in_order : goal.returns-then-not-in_order
@@ -20,8 +21,8 @@ returns-in_err-add_verdict c =
     let is = c.from_residual.ensures.1 in
     let e = c.in_err-add_verdict.was in
     record {
-      number = number_passed run rec _ _ _ is e _ h;
-      run = run_kept _ _ _ refl (passed_positive run rec _ _ _ is e _ h);
+      number = number_passed _ _ e _ h _ is;
+      run = run_kept _ _ _ refl (passed_positive _ _ e _ h);
     }
 
 pub enter-requires : goal.enter-requires

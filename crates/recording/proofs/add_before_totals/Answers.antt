@@ -1,12 +1,13 @@
 -- `recording::add_before_totals` meets its contract. Assumes nothing.
 use mathlib.Core.Path.{refl, sym, ◌∙◌}
 use Rattle.units.specs.Refusals.{answer_number}
+use Rattle.units.proofs.Passed.{number_passed, passed_positive}
 use Rattle.units.proofs.Refusals.{taken_number}
 use Rattle.inventory.proofs.Order.{run_limits}
 use Rattle.inventory.proofs.Records.{record_limits}
 use Rattle.inventory.proofs.Runs.{limits_before}
 use Rattle.inventory.specs.Adding.{with_totals}
-use Rattle.recording.proofs.Runs.{number_passed, passed_positive, raised_number, raised_taken, raised_refused, ready}
+use Rattle.recording.proofs.Runs.{raised_number, raised_taken, raised_refused, ready}
 use Rattle.recording.proofs.add_before_totals.Goals as goal
 
 pub returns-in_err-add_verdict : goal.returns-in_err-add_verdict
@@ -17,8 +18,8 @@ returns-in_err-add_verdict c =
     let e = c.in_err-add_verdict.was in
     let h = c.add_verdict.ensures in
     record {
-      number = number_passed run rec _ _ _ is e _ h;
-      run = raised_refused run rec _ refl (passed_positive run rec _ _ _ is e _ h);
+      number = number_passed _ _ e _ h _ is;
+      run = raised_refused run rec _ refl (passed_positive _ _ e _ h);
     }
 
 pub raise-requires : goal.raise-requires
