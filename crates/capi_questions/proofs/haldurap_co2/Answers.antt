@@ -1,7 +1,0 @@
--- `capi_questions::haldurap_co2` meets its contract. Assumes nothing.
-use mathlib.Core.Path.{ap, ◌∙◌}
-use Rattle.capi_questions.specs.Answers.{grams_answer}
-use Rattle.capi_questions.proofs.haldurap_co2.Goals as goal
-
-pub returns : goal.returns
-returns c = c.grams_of.ensures ∙ ap grams_answer c.co2.ensures
