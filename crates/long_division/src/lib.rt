@@ -27,11 +27,7 @@ fn times_in(t: u64, f: Grams) -> u64
     requires { 0 < f.0 }
     ensures { result ≡ t / f.0 }
 {
-    let f = f.0;
-    if t < f {
-        return 0;
-    }
-    t / f
+    if t < f.0 { 0 } else { t / f.0 }
 }
 
 // S over F, then one digit at a time through the twelve noughts, ending as soon as the remainder is 0.
@@ -41,8 +37,7 @@ fn divided(s: u64, f: Grams) -> Division
 {
     let mut q = times_in(s, f);
     let mut r = s - q * f.0;
-    let mut n: u64 = 0;
-    while n < 12 {
+    for n in 0..12 {
         if r == 0 {
             return Division {
                 quotient: q,
@@ -54,12 +49,11 @@ fn divided(s: u64, f: Grams) -> Division
         let d = times_in(t, f);
         q = q * 10 + d;
         r = t - d * f.0;
-        n += 1;
     }
     Division {
         quotient: q,
         remainder: r,
-        digits: n,
+        digits: 12,
     }
 }
 
@@ -69,10 +63,8 @@ fn filled(q: u64, digits: u64) -> u64
     ensures { result ≡ q * 10 ^ (12 - digits) }
 {
     let mut k = q;
-    let mut have = digits;
-    while have < 12 {
-        k = k * 10;
-        have += 1;
+    for _nought in digits..12 {
+        k *= 10;
     }
     k
 }

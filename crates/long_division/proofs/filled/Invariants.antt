@@ -1,10 +1,6 @@
--- What the loops of `long_division::filled` keep. Assumes nothing.
-use mathlib.Core.Path.{◌≡◌}
-use Prim.Native.Nat.{◌*◌, ◌-◌, ◌^◌, ◌≤◌}
+-- What the loop of `long_division::filled` keeps. Assumes nothing.
+use Rattle.std.proofs.Common.{◌≡◌, ◌*◌, ◌-◌, ◌^◌}
 use Rattle.long_division.proofs.filled.Given as goal
 
-abbrev pub invariant-loop-have : goal.invariant-loop-have
-invariant-loop-have l = (l.k * 10 ^ (12 - l.have) ≡ l.q * 10 ^ (12 - l.digits)) × (l.have ≤ 12)
-
-abbrev pub decreases-loop-have : goal.decreases-loop-have
-decreases-loop-have l = 12 - l.have
+abbrev pub invariant-loop-nought : goal.invariant-loop-nought
+invariant-loop-nought l = l.k * 10 ^ (12 - l._nought) ≡ l.q * 10 ^ (12 - l.digits)
