@@ -11,9 +11,11 @@ use borrow.Author.Tests.{lt-ltb, ltb-true, ltb-false}
 use lib.Dec.{T, eqb, eqb→eq, ltb, leb, leb→le, le→leb, ltb→lt, lit<}
 use lib.IntN.{ℤ, pos, negsuc, neg_ℤ, nat_abs, sub_ℕ, neg_ℤ-neg_ℤ, ◌+ℤ◌, ◌-ℤ◌, ◌*ℤ◌}
 use lib.ListN.{get_or}
-use lib.Signed.{non_neg, lt_z, le_z, le_z_yes, ◌≤ℤ◌}
+use lib.Signed.{lt_z, le_z, le_z_yes, ◌≤ℤ◌}
 use mir.Syntax.{w64}
-use mir.Val.{to_z, of_z}
+use mir.Val.{SFits, to_z, of_z}
+use mir.Facts.{to_z-of_z}
+use Rattle.std.specs.Int.{int_max}
 use Rattle.units.specs.Lists.{tab, sum_to, all_below}
 use Rattle.units.specs.Rounding.{half_up}
 use Rattle.units.specs.Sizes.{Within}
@@ -52,28 +54,17 @@ or_zero_sub (pos a) (suc b) = sub_zero a (suc b)
 or_zero_sub (negsuc a) zero = sub_zero 0 (suc a) ∙ omega arith
 or_zero_sub (negsuc a) (suc b) = omega arith
 
-negative_zero : (z : ℤ) → lt_z z (pos 0) ≡ true → or_zero z ≡ 0
-negative_zero (pos a) e = let h : a < 0 = ltb-true a 0 e in omega arith
-negative_zero (negsuc a) e = refl
+max_zero : (z : ℤ) → nat_abs (int_max z (pos 0)) ≡ or_zero z
+max_zero (pos a) = by a (lt_z (pos 0) (pos a)) refl
+  where
+    by : (a : ℕ) (t : Bool) → lt_z (pos 0) (pos a) ≡ t → nat_abs (cond t (pos a) (pos 0)) ≡ a
+    by a true e = refl
+    by a false e = let h : a ≤ 0 = ltb-false 0 a e in omega arith
+max_zero (negsuc a) = refl
 
-else_nonNeg : (z : ℤ) → lt_z z (pos 0) ≡ false → T (non_neg z)
-else_nonNeg (pos a) e = tt
-else_nonNeg (negsuc a) e = subst T e tt
-
-natAbs_zero : (z : ℤ) → T (non_neg z) → nat_abs z ≡ or_zero z
-natAbs_zero (pos a) t = refl
-natAbs_zero (negsuc a) t = absurd t
-
--- a signed value that was tested against 0
-module _ {m : ℕ} {x z : ℤ} (s : Step m x z) where
-  pub negative : lt_z x (pos 0) ≡ true → 0 ≡ or_zero z
-  negative e = sym (negative_zero z (ap (λ (y : ℤ). lt_z y (pos 0)) (sym s.same) ∙ e))
-
-  pub not_negative : lt_z x (pos 0) ≡ false → T (non_neg z)
-  not_negative e = else_nonNeg z (ap (λ (y : ℤ). lt_z y (pos 0)) (sym s.same) ∙ e)
-
-  pub cast_zero : T (non_neg z) → nat_abs x ≡ or_zero z
-  cast_zero t = ap nat_abs s.same ∙ natAbs_zero z t
+-- a signed value, cut at 0 and cast
+pub cut : {m : ℕ} {x z : ℤ} → Step m x z → (r : ℤ) → SFits w64 r → r ≡ int_max x (pos 0) → nat_abs (to_z w64 (of_z w64 r)) ≡ or_zero z
+cut {x = x} {z} s r f e = ap nat_abs (to_z-of_z f ∙ e ∙ ap (λ (y : ℤ). int_max y (pos 0)) s.same) ∙ max_zero z
 
 -- ---- a temperature in range
 

@@ -6,16 +6,11 @@ ghost use Rattle.coldstart.specs.ColdStart.{cold_excess, cold_factor, cold_share
 ghost use Rattle.coldstart.specs.Claim.{ShareClaim};
 
 // Whether a temperature is from -300 to 400 tenths of a degree.
+#[tactic(auto, unfolding(crate::specs::ColdStart::temperature_ok))]
 pub fn temperature_ok(t: i64) -> bool
     ensures { result ≡ temperature_ok t }
 {
-    if t < -300 {
-        return false;
-    }
-    if 400 < t {
-        return false;
-    }
-    true
+    (-300..=400).contains(&t)
 }
 
 // B: the cold share of the distance.
@@ -34,10 +29,7 @@ pub fn cold_excess(p: u64, q: u64, t: i64) -> u64
     ensures { result ≡ cold_excess (slope p q) t }
 {
     let x = p as i64 - q as i64 * t - 10000;
-    if x < 0 {
-        return 0;
-    }
-    x as u64
+    x.max(0) as u64
 }
 
 // The cold factor of E and X.
