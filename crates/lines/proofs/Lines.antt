@@ -9,8 +9,8 @@ use native.Mathlib.Omega.{arith}
 use lib.Dec.{ltb, eqb}
 use lib.IntN.{ℤ}
 use lib.ListN.{length, get_or, take, drop, length-drop}
-use lib.Seq.{take-take, get_or-take, get_or-drop, length-take-le}
-use borrow.Author.Tests.{ltb-true, ltb-false, eqb-true, eq-eqb, ne_eqb}
+use lib.Seq.{take_all, take-take, get_or-take, get_or-drop, length-take-le}
+use borrow.Author.Tests.{ltb-true, ltb-false, eqb-true, eqb-false, eq-eqb, ne_eqb}
 use Rattle.units.proofs.Tests.{and_left, and_right}
 use Rattle.fields.proofs.RoundTrip.{lf_bad}
 use Rattle.fields.specs.Field.{parse}
@@ -174,7 +174,7 @@ module _ (ws l : List ℕ) where
   size = length-take-le (line_length l) l (short l)
 
   -- a first line of the right shape ends where its fields do
-  ends : shaped ws (take (line_length l) l) ≡ true → line_length l ≡ total ws + 1
+  pub ends : shaped ws (take (line_length l) l) ≡ true → line_length l ≡ total ws + 1
   unfolding shaped
   ends e = sym size ∙ eqb-true _ _ (and_left (eqb (length (take (line_length l) l)) (total ws + 1)) _ e)
 
@@ -237,3 +237,23 @@ module _ (ws l : List ℕ) where
       by : (o : Option (List ℤ)) → numbers_in (fields ws l) ≡ o → numbers_of ws (take (line_length l) l) ≡ o
       by None e = line_cases (λ o. o ≡ None) refl e
       by (Some zs) e = line_numbers zs h lf e
+
+  -- as many bytes as a line of this shape has say what the first line does
+  pub chunk_numbers : numbers_of ws (take (total ws + 1) l) ≡ numbers_of ws (take (line_length l) l)
+  unfolding numbers_of shaped
+  chunk_numbers = by_length (ltb (total ws) (length l)) refl
+    where
+      by_lf : (t : Bool) → total ws < length l → eqb (get_or l (total ws) 0) 10 ≡ t → numbers_of ws (take (total ws + 1) l) ≡ numbers_of ws (take (line_length l) l)
+      by_lf true h e =
+          let lf : get_or l (total ws) 0 ≡ 10 = eqb-true _ _ e in
+          rw (eq-eqb _ _ (length-take-le (total ws + 1) l (omega arith)), get_or-take (total ws + 1) l (total ws) 0 (omega arith), eq-eqb _ _ lf, fields_take ws l (total ws + 1) (omega arith))
+          (sym (same_numbers h lf))
+      by_lf false h e =
+          let none : get_or l (total ws) 0 ≡ 10 → ⊥ = eqb-false _ _ e in
+          rw (eq-eqb _ _ (length-take-le (total ws + 1) l (omega arith)), get_or-take (total ws + 1) l (total ws) 0 (omega arith), e) (sym (no_lf none))
+
+      by_length : (t : Bool) → ltb (total ws) (length l) ≡ t → numbers_of ws (take (total ws + 1) l) ≡ numbers_of ws (take (line_length l) l)
+      by_length true e = by_lf (eqb (get_or l (total ws) 0) 10) (ltb-true _ _ e) refl
+      by_length false e =
+          let h = ltb-false _ _ e in
+          rw (take_all (total ws + 1) l (omega arith), ne_eqb (length l) (total ws + 1) (λ q. omega arith)) (sym (too_short h))

@@ -1,2 +1,1 @@
 pub mod Sheet
-pub mod Reading

@@ -1,59 +1,94 @@
 -- `sheet::read_sheet` meets its contract. Assumes nothing.
-use mathlib.Core.Path.{sym, ◌∙◌}
-use borrow.Author.Tests.{not-true, not-false}
+use Rattle.std.proofs.Common.{rules}
+use Prim.Native.Nat.{◌+◌, ◌≤◌}
+use mathlib.Core.Path.{◌≡◌, sym, ap, ◌∙◌}
+use mathlib.Core.Logic.{inl}
+use native.Mathlib.Omega.{arith}
+use lib.ListN.{length, length-append, length-drop}
+use Rattle.std.proofs.lemmas.List.{take_rest}
+use Rattle.std.specs.Iterator.Adapters.{enumerate_source, enumerate_count}
+use Rattle.std.specs.Slice.Iter.{chunks_rest}
 use Rattle.units.specs.Refusals.{refusal_number}
 use Rattle.units.proofs.Refusals.{number_positive, taken_number, refused_number}
+use Rattle.inventory.specs.Order.{in_order}
+use Rattle.inventory.specs.Adding.{with_totals}
+use Rattle.inventory.specs.Opening.{given_run}
+use Rattle.inventory.proofs.Order.{run_limits}
+use Rattle.inventory.proofs.Runs.{limits_before}
+use Rattle.run_totals.proofs.Totals.{amounts_limits}
 use Rattle.recording.proofs.Runs.{opened_order}
-use Rattle.lines.specs.Lines.{lines, first_of}
-use Rattle.lines.specs.Records.{head_of}
-use Rattle.sheet.specs.Sheet.{sheet_of}
-use Rattle.sheet.proofs.Walk.{gives_by, head_misread, head_read, first_most, no_head, its_head, decided_taken, decided_refused}
+use Rattle.sheet.specs.Sheet.{refused_at}
+use Rattle.sheet.proofs.Walk.{line_refused, line_taken, no_lines, head_misread, first_most, head_refused, head_taken, opened_totals}
 use Rattle.sheet.proofs.read_sheet.Goals as goal
 
-pub returns-then-not-line : goal.returns-then-not-line
+pub returns-in_default : goal.returns-in_default
 unfolding refusal_number
-returns-then-not-line c =
-    let e = head_misread c.args.text.now (no_head _ _ _ c.head_line-line.ensures (not-true _ c.if-not-line.true)) in
-    let g = gives_by (sym e) c.sent_back.ensures in
-    record {
-      number = g.number;
-      line = g.line;
-      run = g.run;
-    }
+returns-in_default c = head_misread c.args.text.now (sym c.in_default.is ∙ c.head_line.ensures)
 
-pub returns-in-Refused : goal.returns-in-Refused
-returns-in-Refused c =
-    let s = c.args.text.now in
-    let o = c.open_run-opened.ensures in
-    let l = its_head _ _ _ c.head_line-line.ensures (not-false _ c.if-not-line.false) in
-    let z = refused_number _ _ _ c.in-Refused.is o.number in
-    let g = gives_by (sym (head_read s _ l.0 ∙ decided_refused _ _ 1 _ z (number_positive _))) c.sent_back-in-Refused.ensures in
-    record {
-      number = g.number;
-      line = g.line;
-      run = g.run;
-    }
+pub returns-in-Err : goal.returns-in-Err
+returns-in-Err c =
+    head_refused c.args.text.now c.in-Some.first (sym c.in-Some.is ∙ c.head_line.ensures) _ (sym (refused_number _ _ _ c.in-Err.is c.open_run.ensures.number)) (number_positive _)
 
-pub read_records-requires : goal.read_records-requires
-read_records-requires c =
-    let s = c.args.text.now in
-    let o = c.open_run-opened.ensures in
-    let l = its_head _ _ (head_of (first_of (lines s))) c.head_line-line.ensures (not-false _ c.if-not-line.false) in
-    let z = taken_number _ _ c.in-Taken.is o.number in
-    record {
-      from_in_bounds = rw l.1 (first_most s);
-      first_value = rw o.run (opened_order _ z);
-    }
+pub slice_bounds-chunks-count : goal.slice_bounds-chunks-count
+slice_bounds-chunks-count c = first_most c.args.text.now c.in-Some.first (sym c.in-Some.is ∙ c.head_line.ensures)
+
+pub slice_bounds-chunks-start : goal.slice_bounds-chunks-start
+slice_bounds-chunks-start c = first_most c.args.text.now c.in-Some.first (sym c.in-Some.is ∙ c.head_line.ensures)
+
+pub loop-i-init : goal.loop-i-init
+unfolding given_run
+loop-i-init c =
+    let head = c.in-Some.first.head in
+    let line = sym c.in-Some.is ∙ c.head_line.ensures in
+    let z = taken_number _ _ _ c.in-Ok.is c.open_run.ensures.number in
+    let text = c.args.text.now in
+    let it = c.into_iter-i-iterator.ensures.into_iter_gives in
+    let count = ap enumerate_count it ∙ c.enumerate-i-items.ensures.count in
+    let rest = ap (λ i. chunks_rest (enumerate_source i)) it ∙ ap chunks_rest c.enumerate-i-items.ensures.source ∙ c.chunks.ensures.rest ∙ take_rest text c.in-Some.first.size in
+    let run : with_totals c.in-Ok.run' ≡ Rattle.inventory.specs.Opening.open_run head = ap with_totals c.in-Ok.ensures.run ∙ opened_totals head in (
+      search rules,
+      tt,
+      search rules,
+      omega (arith, count, ap length rest, length-drop c.in-Some.first.size text, first_most text c.in-Some.first line),
+      ap in_order run ∙ opened_order head z,
+      rw (run, count, rest) (head_taken text c.in-Some.first line z),
+    )
+
+pub overflow_add-result : goal.overflow_add-result
+overflow_add-result c = let s = c.in-Some-2.ensures.steps in omega (arith, s.1, s.0.1.2)
+
+pub returns-in-Err-add_line : goal.returns-in-Err-add_line
+returns-in-Err-add_line c =
+    let it = c.loop-i.i-iterator in
+    let s = c.in-Some-2.ensures.steps in
+    let refused = refused_number _ _ _ c.in-Err-add_line.is c.add_line.ensures.number in
+    ap (λ n. refused_at (refusal_number c.in-Err-add_line.reason) (n + 2)) s.1
+    ∙ line_refused _ c.in-Some-2.line.now _ s.0.1.0 (rw c.loop-i.invariant.2 at s.0.1.1) s.0.1.2 (with_totals c.loop-i.run) (enumerate_count it + 2) _ (sym refused) (number_positive _)
+    ∙ c.loop-i.invariant.5
+
+pub loop-i-preserved : goal.loop-i-preserved
+loop-i-preserved c =
+    let it = c.loop-i.i-iterator in
+    let s = c.in-Some-2.ensures.steps in
+    let n = enumerate_count it in
+    let taken = taken_number _ _ _ c.in_default-add_line.is c.add_line.ensures.number in
+    let size = s.0.0 ∙ c.loop-i.invariant.2 in
+    let shorter = ap length s.0.1.0 ∙ length-append c.in-Some-2.line.now (chunks_rest (enumerate_source c.next.new.self)) in
+    let fewer : enumerate_count c.next.new.self + length (chunks_rest (enumerate_source c.next.new.self)) ≤ length c.args.text.now = omega (arith, s.2, s.0.1.1, s.0.1.2, c.loop-i.invariant.2, c.loop-i.invariant.3) in
+    let turn : n + 1 + 2 ≡ n + 2 + 1 = omega arith in (
+      (omega (arith, size), tt, inl (omega arith)),
+      tt,
+      size,
+      fewer,
+      c.add_line.ensures.order,
+      rw (c.add_line.ensures.run, s.2, turn)
+          (line_taken _ c.in-Some-2.line.now _ s.0.1.0 (rw c.loop-i.invariant.2 at s.0.1.1) s.0.1.2 (with_totals c.loop-i.run) (n + 2) taken ∙ c.loop-i.invariant.5),
+    )
+
+pub make_totals-requires-clause-run_limits : goal.make_totals-requires-clause-run_limits
+make_totals-requires-clause-run_limits c = amounts_limits c.loop-i.run (limits_before c.loop-i.run (run_limits (with_totals c.loop-i.run) c.loop-i.invariant.4))
 
 pub returns : goal.returns
 returns c =
-    let s = c.args.text.now in
-    let o = c.open_run-opened.ensures in
-    let l = its_head _ _ _ c.head_line-line.ensures (not-false _ c.if-not-line.false) in
-    let z = taken_number _ _ c.in-Taken.is o.number in
-    let g = gives_by {b = sheet_of s} (rw (o.run, l.1) (sym (head_read s _ l.0 ∙ decided_taken _ 1 _ z))) c.read_records.ensures in
-    record {
-      number = g.number;
-      line = g.line;
-      run = g.run;
-    }
+    let run = with_totals c.loop-i.run in
+    rw c.make_totals.ensures (sym (no_lines run (enumerate_count c.loop-i.i-iterator + 2) _ c.in-None.ensures.steps.0.1.0) ∙ c.loop-i.invariant.5)
