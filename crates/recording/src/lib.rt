@@ -86,15 +86,22 @@ pub fn add_before_totals(run: &mut Run, rec: Record) -> Result<(), Refusal>
     Ok(())
 }
 
+// Whether an add is refused: 16, then 3 to 9.
+fn run_verdict(run: &Run, rec: &Record) -> Result<(), Refusal>
+    ensures { answer_number result ≡ add_number run.now rec.now }
+{
+    if !order::in_order(run) {
+        return Err(Refusal::RunOrder);
+    }
+    add_verdict(run.count, rec)
+}
+
 // Adds a record to a run; a refused record leaves the run as it came.
 pub fn add(run: &mut Run, rec: Record) -> Result<(), Refusal>
     ensures number { answer_number result ≡ add_number run.old rec }
     ensures run { run.new ≡ add_run run.old rec }
 {
-    if !order::in_order(run) {
-        return Err(Refusal::RunOrder);
-    }
-    add_verdict(run.count, &rec)?;
+    run_verdict(run, &rec)?;
     enter(run, rec);
     Ok(())
 }
