@@ -5,7 +5,7 @@ ghost use Rattle.std.specs.Prelude.{◌≡◌, ◌+◌, ◌*◌, ◌≤◌, leng
 ghost use Rattle.areas.specs.Numbers.{run_at};
 
 use inventory::{Amount, RunNumbers};
-use units::Grams;
+use units::{Grams, VehicleKm};
 
 // The run of an area where it lies: its 171 numbers among those of the areas.
 #[derive(Clone, Copy)]
@@ -42,8 +42,8 @@ impl RunNumbers for AreaRun<'_> {
         self.numbers[17]
     }
 
-    fn km(&self, fuel: usize) -> u64 {
-        self.numbers[18 + fuel]
+    fn km(&self, fuel: usize) -> VehicleKm {
+        VehicleKm(self.numbers[18 + fuel])
     }
 
     fn sum(&self, j: usize) -> Amount {

@@ -4,10 +4,10 @@
 ghost use Rattle.std.specs.Prelude.{◌≡◌, ◌<◌, get_or};
 ghost use Rattle.classes.specs.Classes.{x_count};
 ghost use Rattle.inventory.specs.declared.Run.{Run};
-ghost use Rattle.inventory.specs.Order.{km_in};
 ghost use Rattle.inventory.specs.Amounts.{sum_amount, total_amount};
 
 use crate::{Amount, Run};
+use units::VehicleKm;
 
 pub trait RunNumbers {
     // The run whose numbers these are.
@@ -24,9 +24,9 @@ pub trait RunNumbers {
         ensures { result ≡ (run self.now).count };
 
     // The kilometres of a fuel.
-    fn km(&self, fuel: usize) -> u64
+    fn km(&self, fuel: usize) -> VehicleKm
         requires { fuel < 3 }
-        ensures { result ≡ km_in (run self.now) fuel };
+        ensures { result ≡ get_or (run self.now).km fuel (record { 0 = 0 }) };
 
     // The sum and the stored total at a place.
     fn sum(&self, j: usize) -> Amount
@@ -53,9 +53,8 @@ impl RunNumbers for Run {
         self.count
     }
 
-    fn km(&self, fuel: usize) -> u64 {
-        let km = self.km[fuel];
-        km.0
+    fn km(&self, fuel: usize) -> VehicleKm {
+        self.km[fuel]
     }
 
     fn sum(&self, j: usize) -> Amount {

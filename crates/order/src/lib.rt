@@ -21,7 +21,7 @@ fn kms_ok<R: RunNumbers>(run: &R) -> bool
     ensures { result ≡ all_below (km_ok (R.run run.now)) 3 }
 {
     let limit = 1000000000 * run.count();
-    (0..3).all(|fuel| run.km(fuel) <= limit)
+    (0..3).all(|fuel| run.km(fuel).0 <= limit)
 }
 
 // Whether the count, the sums, the totals and the kilometres are in order.
