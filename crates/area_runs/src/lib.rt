@@ -24,3 +24,28 @@ pub fn run_of(area: &AreaRun) -> Run
         total_rests: array::from_fn(|k| area.total(k).rest),
     }
 }
+
+// Writes what the closure gives to each place in turn.
+fn fill<F: Fn(usize) -> u64>(part: &mut [u64], number: F)
+    requires { (i : _) → i < length part.old → F.pre number i }
+    ensures { (f : ℕ → ℕ) → ((i x : ℕ) → F.post number i x → x ≡ f i) → part.new ≡ tab f (length part.old) }
+{
+    for (i, place) in part.iter_mut().enumerate() {
+        *place = number(i);
+    }
+}
+
+// Writes a run to the numbers of an area.
+pub fn put_run(area: &mut [u64], run: &Run)
+    requires { length area.old ≡ 171 }
+    ensures { area.new ≡ tab (run_number run.now) 171 }
+{
+    area[0] = run.trip;
+    area[1..17].copy_from_slice(&run.x);
+    area[17] = run.count;
+    fill(&mut area[18..21], |fuel| run.km[fuel].0);
+    fill(&mut area[21..81], |j| run.grams[j].0);
+    area[81..141].copy_from_slice(&run.rests);
+    fill(&mut area[141..156], |k| run.total_grams[k].0);
+    area[156..171].copy_from_slice(&run.total_rests);
+}
