@@ -2,9 +2,9 @@
 #![tactic(auto)]
 
 use calendar::Period;
-use inventory::{Head, Record, Run, Shares, Speeds};
+use inventory::{Amount, Head, Record, Run, Shares};
 use std::io;
-use units::Speed;
+use units::{Speed, Speeds};
 
 // Record i of the fleet: all seven classes in turn.
 fn record_at(i: u64) -> Record {
@@ -25,50 +25,41 @@ fn record_at(i: u64) -> Record {
     }
 }
 
-fn filled(run: Run) -> Run {
-    let mut r = run;
-    let mut i: u64 = 0;
-    while i < 5000 {
-        let a = recording::add(r, record_at(i));
-        r = a.run;
-        i += 1;
+// A fresh run with 5,000 records.
+fn filled(fresh: &Run) -> Run {
+    let mut run = *fresh;
+    for i in 0..5000 {
+        let _added = recording::add(&mut run, record_at(i));
     }
-    r
+    run
 }
 
-fn print_run(rt: &impl Print, run: Run) -> io::Result<()> {
-    let mut j: usize = 0;
-    while j < 60 {
-        let g = run.grams[j];
-        println!(rt; "{} {}", g.0, run.rests[j])?;
-        j += 1;
-    }
-    Ok(())
+fn print_amount(rt: &impl Print, a: Amount) -> io::Result<()> {
+    println!(rt; "{} {}", a.grams.0, a.rest)
 }
 
-fn print_totals(rt: &impl Print, run: Run) -> io::Result<()> {
-    let mut k: usize = 0;
-    while k < 15 {
-        let g = run.total_grams[k];
-        println!(rt; "{} {}", g.0, run.total_rests[k])?;
-        k += 1;
+fn print_amounts(rt: &impl Print, run: &Run) -> io::Result<()> {
+    for j in 0..60 {
+        print_amount(rt, run.sum(j))?;
+    }
+    for k in 0..15 {
+        print_amount(rt, run.total(k))?;
     }
     Ok(())
 }
 
 fn main(rt: HostRuntime) -> io::Result<()> {
-    let opened = recording::open_run(Head {
+    let head = Head {
         trip: 120,
         temps: [-50, 0, 50, 100, 150, 200, 200, 200, 150, 100, 50, 0],
         period: Period::Year,
-    });
-    let fresh = opened.run;
-    let mut run = fresh;
-    let mut n: u64 = 0;
-    while n < 400 {
-        run = filled(fresh);
-        n += 1;
+    };
+    if let Ok(fresh) = recording::open_run(head) {
+        let mut run = fresh;
+        for _ in 0..400 {
+            run = filled(&fresh);
+        }
+        print_amounts(&rt, &run)?;
     }
-    print_run(&rt, run)?;
-    print_totals(&rt, run)
+    Ok(())
 }

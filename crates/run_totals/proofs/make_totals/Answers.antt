@@ -13,7 +13,7 @@ loop-k-preserved c =
     let k = c.loop-k.k in
     let s = sums_kept old from i in
     let e = total_made_lem old k (k * 4) _ refl
-        (rw (c.sum.ensures, c.sum-in-loop-k.ensures, c.sum-in-loop-k-2.ensures, c.sum-in-loop-k-3.ensures, s (k * 4), s (k * 4 + 1), s (k * 4 + 2), s (k * 4 + 3)) at c.total_of-total.ensures) in
+    (rw (c.sum.ensures, c.sum-in-loop-k.ensures, c.sum-in-loop-k-2.ensures, c.sum-in-loop-k-3.ensures, s (k * 4), s (k * 4 + 1), s (k * 4 + 2), s (k * 4 + 3)) at c.total_of-total.ensures) in
     rw c.set_total.ensures (made_more old from i (omega arith) (omega arith) _ e)
 
 pub returns : goal.returns
