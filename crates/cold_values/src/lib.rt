@@ -35,7 +35,7 @@ fn with_month(table: &[[u64; 2]; 15], sums: [u64; 15], b: u64, t: i64) -> [u64; 
 {
     let mut r = sums;
     for i in 0..15 {
-        r[i] = r[i] + b * coldstart::cold_excess(table[i][0], table[i][1], t);
+        r[i] += b * coldstart::cold_excess(table[i][0], table[i][1], t);
     }
     r
 }

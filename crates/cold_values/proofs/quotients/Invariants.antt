@@ -8,6 +8,3 @@ use Rattle.cold_values.proofs.quotients.Given as goal
 
 abbrev pub invariant-loop-i : goal.invariant-loop-i
 invariant-loop-i l = (l.i ≤ 15) × (l.half ≡ l.weight * 500) × Filled (x_of_sums l.weight l.sums) x_count l.x l.i
-
-abbrev pub decreases-loop-i : goal.decreases-loop-i
-decreases-loop-i l = 15 - l.i

@@ -1,6 +1,6 @@
 -- `cold_values::values_of` meets its contract. Assumes nothing.
 use mathlib.Core.Path.{◌≡◌, refl, ap, ◌∙◌}
-use Prim.Native.Nat.{◌*◌, ◌≤◌, ◌-◌}
+use Prim.Native.Nat.{◌*◌, ◌≤◌}
 use native.Mathlib.Omega.{arith}
 use lib.IntN.{pos, nat_abs}
 use lib.ListN.{get_or}
@@ -22,41 +22,15 @@ month c =
     mul_most _ _ 31 90265000 (light c.args.period _ c.weights_of-weights.ensures.months k (omega arith))
     (omega (arith, c.cold_share-share.ensures, (share_whole c.args.l w.trip_low w.trip_high _ ok).most))
 
-pub weights_of-weights-requires : goal.weights_of-weights-requires
-weights_of-weights-requires c = c.requires.2
-
 pub loop-k-init : goal.loop-k-init
 unfolding tab sums_to sum_to
 loop-k-init c = (omega arith, refl)
-
-pub offset_bounds-months-k : goal.offset_bounds-months-k
-offset_bounds-months-k c = omega arith
-
-pub bounds-months-k : goal.bounds-months-k
-bounds-months-k c = omega arith
-
-pub overflow_step-k : goal.overflow_step-k
-overflow_step-k c = omega arith
-
-pub loop-k-smaller-then-weight-eq0 : goal.loop-k-smaller-then-weight-eq0
-loop-k-smaller-then-weight-eq0 c = omega arith
 
 pub loop-k-preserved-then-weight-eq0 : goal.loop-k-preserved-then-weight-eq0
 loop-k-preserved-then-weight-eq0 c =
     let l = c.loop-k in
     let months = c.weights_of-weights.result.months in
     (omega arith, l.invariant.1 ∙ sums_kept (weight_in months) _ _ l.k c.if-weight-eq0.true)
-
-pub offset_bounds-temps-k : goal.offset_bounds-temps-k
-offset_bounds-temps-k c = omega arith
-
-pub bounds-temps-k : goal.bounds-temps-k
-bounds-temps-k c = omega arith
-
-pub cold_share-share-requires : goal.cold_share-share-requires
-cold_share-share-requires c =
-    let w = c.requires.1 in
-    (w.trip_low, w.trip_high, read_ok _ (w.temperatures c.loop-k.k (omega arith)))
 
 pub overflow_mul-weight : goal.overflow_mul-weight
 overflow_mul-weight c = omega (arith, month c)
@@ -68,12 +42,6 @@ with_month-next-requires c =
     let e = c.weights_of-weights.ensures.months in
     let ok = read_ok _ (w.temperatures l.k (omega arith)) in
     (c.requires.0, small_sums _ _ w _ (light c.args.period _ e) l.k _ (omega arith) l.invariant.1, omega (arith, month c), ok)
-
-pub overflow_step-k-in-loop-k : goal.overflow_step-k-in-loop-k
-overflow_step-k-in-loop-k c = omega arith
-
-pub loop-k-smaller : goal.loop-k-smaller
-loop-k-smaller c = omega arith
 
 pub loop-k-preserved : goal.loop-k-preserved
 loop-k-preserved c =

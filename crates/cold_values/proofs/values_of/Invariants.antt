@@ -23,6 +23,3 @@ light period months e k h = rw (weight_is period months e k h) (weight_most peri
 
 abbrev pub invariant-loop-k : goal.invariant-loop-k
 invariant-loop-k l = (l.k ≤ 12) × (l.sums ≡ tab (sums_to (weight_in l.months) l.l l.temps l.k) 15)
-
-abbrev pub decreases-loop-k : goal.decreases-loop-k
-decreases-loop-k l = 12 - l.k

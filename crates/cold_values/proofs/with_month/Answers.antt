@@ -6,7 +6,7 @@ use lib.ListN.{get_or}
 use mir.Syntax.{w64}
 use mir.Val.{to_z, of_z}
 use Rattle.units.specs.Lists.{tab}
-use Rattle.units.proofs.Between.{between_none, between_more, between}
+use Rattle.units.proofs.Between.{between_more, between}
 use Rattle.units.proofs.Rounds.{mul_most}
 use Rattle.coldstart.specs.ColdStart.{SlopeLimits, cold_excess, with_month}
 use Rattle.coldstart.proofs.ColdStart.{entry, entry_limits, entry_read, excess_most, read, read_ok}
@@ -27,9 +27,6 @@ turn c =
       subst (λ n. n ≤ 1814000000000000) (sym old) (c.requires.1.each i h),
       λ j. old j + c.args.b * e j,
     )
-
-pub loop-i-init : goal.loop-i-init
-loop-i-init c = (omega arith, between_none _ _ _ _ _ _ (omega arith) refl)
 
 pub cold_excess-requires : goal.cold_excess-requires
 cold_excess-requires c =

@@ -6,6 +6,3 @@ use Rattle.cold_values.proofs.with_month.Given as goal
 
 abbrev pub invariant-loop-i : goal.invariant-loop-i
 invariant-loop-i l = (l.i ≤ 15) × Between 0 (with_month l.initial.r l.b l.t) l.initial.r 15 0 l.i l.r
-
-abbrev pub decreases-loop-i : goal.decreases-loop-i
-decreases-loop-i l = 15 - l.i
