@@ -3,11 +3,9 @@ use mathlib.Core.Path.{◌≡◌, refl, sym, ◌∙◌}
 use mathlib.Core.Bool.{Bool, true, false, cond, ◌||◌}
 use Prim.Native.Nat.{ℕ, zero, suc, ◌+◌, ◌-◌, ◌/◌, ◌%◌, ◌≤◌, ◌<◌}
 use native.Mathlib.Omega.{arith}
-use lib.Dec.{eqb}
-use borrow.Author.Tests.{eq-eqb, ne_eqb}
 use Rattle.units.specs.Lists.{sum_to}
 use Rattle.units.specs.Grounds.{outside}
-use Rattle.units.proofs.Tests.{or_true, or_false_left, or_false_right, inside, inside_low, inside_high}
+use Rattle.units.proofs.Tests.{or_false_left, or_false_right, inside, inside_low, inside_high}
 use Rattle.calendar.specs.Calendar.{is_leap, month_length, year_of, month_of, day_of, no_day}
 
 -- what holds of the twelve months holds below 12
@@ -25,21 +23,6 @@ twelve P a b c d e f g h i j l m (suc (suc (suc (suc (suc (suc (suc (suc (suc ze
 twelve P a b c d e f g h i j l m (suc (suc (suc (suc (suc (suc (suc (suc (suc (suc zero)))))))))) o = l
 twelve P a b c d e f g h i j l m (suc (suc (suc (suc (suc (suc (suc (suc (suc (suc (suc zero))))))))))) o = m
 twelve P a b c d e f g h i j l m (suc (suc (suc (suc (suc (suc (suc (suc (suc (suc (suc (suc n)))))))))))) o = absurd (omega arith)
-
--- ---- leap years
-
-module _ (year : ℕ) where
-  pub no_fourth : (year % 4 ≡ 0 → ⊥) → false ≡ is_leap year
-  unfolding is_leap
-  no_fourth h = rw (ne_eqb (year % 4) 0 h)
-
-  pub no_century : year % 4 ≡ 0 → (year % 100 ≡ 0 → ⊥) → true ≡ is_leap year
-  unfolding is_leap
-  no_century f h = rw (eq-eqb (year % 4) 0 f, ne_eqb (year % 100) 0 h)
-
-  pub century : year % 4 ≡ 0 → year % 100 ≡ 0 → eqb (year % 400) 0 ≡ is_leap year
-  unfolding is_leap
-  century f h = rw (eq-eqb (year % 4) 0 f, eq-eqb (year % 100) 0 h)
 
 -- ---- the months' lengths
 
@@ -59,6 +42,12 @@ length_range year =
 pub second : (year : ℕ) (leap : Bool) → is_leap year ≡ leap → cond leap 29 28 ≡ month_length year 2
 unfolding month_length
 second year leap e = rw e
+
+pub leap_second : (year month : ℕ) → month ≡ 2 → is_leap year ≡ true → 29 ≡ month_length year month
+leap_second year month m e = rw m (second year true e)
+
+pub plain_second : (year month : ℕ) → month ≡ 2 → is_leap year ≡ false → 28 ≡ month_length year month
+plain_second year month m e = rw m (second year false e)
 
 -- the other eleven, as the code has them
 eleven : (year k : ℕ) → k < 12 → (k + 1 ≡ 2 → ⊥) → 30 + (k + 1 + (k + 1) / 8) % 2 ≡ month_length year (k + 1)
@@ -120,18 +109,3 @@ date_is date p =
       inside 1 12 (month_of date) p.month_low p.month_high,
       inside 1 (month_length (year_of date) (month_of date)) (day_of date) p.day_low p.day_high,
     )
-
--- test by test
-module _ (date : ℕ) where
-  pub year_outside : outside 1980 2100 (year_of date) ≡ true → true ≡ no_day date
-  unfolding no_day
-  year_outside h = rw h
-
-  pub month_outside : outside 1 12 (month_of date) ≡ true → true ≡ no_day date
-  unfolding no_day
-  month_outside h = rw (h, or_true (outside 1980 2100 (year_of date)))
-
-  pub day_outside : outside 1980 2100 (year_of date) ≡ false → outside 1 12 (month_of date) ≡ false
-      → outside 1 (month_length (year_of date) (month_of date)) (day_of date) ≡ no_day date
-  unfolding no_day
-  day_outside y m = rw (y, m)

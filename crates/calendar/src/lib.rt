@@ -33,81 +33,66 @@ pub struct Weights {
 }
 
 // The period of two numbers beside a head: 0 and 0 are no dates, anything else is dated.
+#[tactic(auto, unfolding(crate::specs::Periods::period_from))]
 pub fn period_from(first: u64, last: u64) -> Period
     ensures { result ≡ period_from first last }
 {
-    if first == 0 {
-        if last == 0 {
-            return Period::Year;
-        }
+    if first == 0 && last == 0 {
+        Period::Year
+    } else {
+        Period::Days(Days { first, last })
     }
-    Period::Days(Days { first, last })
 }
 
 // Whether a year is a leap year.
+#[tactic(auto, unfolding(crate::specs::Calendar::is_leap))]
 fn is_leap(year: u64) -> bool
     ensures { result ≡ is_leap year }
 {
-    if year % 4 != 0 {
-        return false;
-    }
-    if year % 100 != 0 {
-        return true;
-    }
-    year % 400 == 0
+    year % 4 == 0 && (year % 100 != 0 || year % 400 == 0)
 }
 
 // The days of a month, 1 January to 12 December.
+#[tactic(auto, using(crate::proofs::Months::leap_second, crate::proofs::Months::plain_second, crate::proofs::Months::other_months))]
 fn month_length(year: u64, month: u64) -> u64
     requires { (1 ≤ month) × (month ≤ 12) }
     ensures { result ≡ month_length year month }
 {
     if month == 2 {
-        if is_leap(year) {
-            return 29;
-        }
-        return 28;
+        return if is_leap(year) { 29 } else { 28 };
     }
     // From August on the even months are the long ones.
     30 + (month + month / 8) % 2
 }
 
 // Whether a date is no day from 1980 to 2100.
+#[tactic(auto, using(units::proofs::Tests::inside_low, units::proofs::Tests::inside_high), unfolding(crate::specs::Calendar::no_day))]
 fn no_day(date: u64) -> bool
     ensures { result ≡ no_day date }
 {
     let year = date / 10000;
     let month = date / 100 % 100;
-    if units::is_outside(1980, 2100, year) {
-        return true;
-    }
-    if units::is_outside(1, 12, month) {
-        return true;
-    }
-    let length = month_length(year, month);
-    units::is_outside(1, length, date % 100)
+    units::is_outside(1980, 2100, year)
+        || units::is_outside(1, 12, month)
+        || units::is_outside(1, month_length(year, month), date % 100)
 }
 
 // Whether a first and a last day are refused: 19, then 20.
+#[tactic(auto, using(crate::proofs::Grounds::no_first, crate::proofs::Grounds::no_last, crate::proofs::Grounds::before_first, crate::proofs::Grounds::other_year, crate::proofs::Grounds::good_days), unfolding(units::specs::Refusals::answer_number, units::specs::Refusals::refusal_number))]
 fn days_verdict(d: Days) -> Result<(), Refusal>
     ensures { answer_number result ≡ days_number d }
 {
-    if no_day(d.first) {
+    if no_day(d.first) || no_day(d.last) {
         return Err(Refusal::NoDay);
     }
-    if no_day(d.last) {
-        return Err(Refusal::NoDay);
-    }
-    if d.last < d.first {
-        return Err(Refusal::DayOrder);
-    }
-    if d.first / 10000 != d.last / 10000 {
+    if d.last < d.first || d.first / 10000 != d.last / 10000 {
         return Err(Refusal::DayOrder);
     }
     Ok(())
 }
 
 // Whether a period is refused: 19, then 20.
+#[tactic(auto, using(crate::proofs::Grounds::year_taken), unfolding(units::specs::Refusals::answer_number))]
 pub fn period_verdict(period: Period) -> Result<(), Refusal>
     ensures { answer_number result ≡ first_fit (period_grounds period) }
 {
