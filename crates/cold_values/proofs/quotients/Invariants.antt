@@ -1,6 +1,6 @@
 -- What the loops of `cold_values::quotients` keep. Assumes nothing.
 use mathlib.Core.Path.{◌≡◌}
-use Prim.Native.Nat.{◌*◌, ◌-◌, ◌≤◌}
+use Prim.Native.Nat.{◌*◌, ◌≤◌}
 use Rattle.units.proofs.Tab.{Filled}
 use Rattle.classes.specs.Classes.{x_count}
 use Rattle.coldstart.specs.ColdStart.{x_of_sums}

@@ -1,7 +1,7 @@
 -- What the loops of `cold_values::values_of` keep. Assumes nothing.
 use mathlib.Core.Path.{◌≡◌}
 use mathlib.Core.List.{List}
-use Prim.Native.Nat.{ℕ, ◌≤◌, ◌<◌, ◌-◌}
+use Prim.Native.Nat.{ℕ, ◌≤◌, ◌<◌}
 use lib.ListN.{get_or}
 use Rattle.units.specs.Lists.{tab}
 use Rattle.units.proofs.Tab.{tab_at}

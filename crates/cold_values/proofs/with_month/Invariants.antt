@@ -1,5 +1,5 @@
 -- What the loops of `cold_values::with_month` keep. Assumes nothing.
-use Prim.Native.Nat.{◌≤◌, ◌-◌}
+use Prim.Native.Nat.{◌≤◌}
 use Rattle.units.proofs.Between.{Between}
 use Rattle.coldstart.specs.ColdStart.{with_month}
 use Rattle.cold_values.proofs.with_month.Given as goal
