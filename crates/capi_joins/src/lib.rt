@@ -8,12 +8,11 @@ ghost use Rattle.capi_answers.specs.Answers.{run_answer};
 use capi_answers::RunAnswer;
 use inventory::Run;
 
-pub fn haldurap_join(first: Run, second: Run) -> RunAnswer
+#[unsafe(no_mangle)]
+pub extern "C" fn haldurap_join(first: Run, second: Run) -> RunAnswer
     ensures { result ≡ run_answer (join_number first second) (join_run first second) }
 {
-    let a = joining::join(first, second);
-    let v = a.verdict;
-    let number = units::verdict_number(v);
-    let run = a.run;
+    let mut run = first;
+    let number = units::answer_number(&joining::join(&mut run, &second));
     RunAnswer { number, run }
 }

@@ -21,7 +21,8 @@ pub struct Layout {
     pub size: u64,
 }
 
-pub fn haldurap_layout() -> Layout
+#[unsafe(no_mangle)]
+pub extern "C" fn haldurap_layout() -> Layout
     ensures { result ≡ layout_of }
 {
     Layout {
@@ -30,31 +31,25 @@ pub fn haldurap_layout() -> Layout
     }
 }
 
-pub fn haldurap_open(head: HeadNumbers) -> RunAnswer
+#[unsafe(no_mangle)]
+pub extern "C" fn haldurap_open(head: HeadNumbers) -> RunAnswer
     ensures { result ≡ run_answer (open_number (head_from head)) (open_run (head_from head)) }
 {
-    let a = recording::open_run(capi_heads::head_from(head));
-    let v = a.verdict;
-    let n = units::verdict_number(v);
-    let run = a.run;
-    RunAnswer { number: n, run }
+    RunAnswer::from(recording::open_run(capi_heads::head_from(head)))
 }
 
-pub fn haldurap_add(run: Run, rec: Record) -> RunAnswer
+#[unsafe(no_mangle)]
+pub extern "C" fn haldurap_add(run: Run, rec: Record) -> RunAnswer
     ensures { result ≡ run_answer (add_number run rec) (add_run run rec) }
 {
-    let a = recording::add(run, rec);
-    let v = a.verdict;
-    let number = units::verdict_number(v);
-    let after = a.run;
+    let mut after = run;
+    let number = units::answer_number(&recording::add(&mut after, rec));
     RunAnswer { number, run: after }
 }
 
-pub fn haldurap_in_order(run: Run) -> u64
+#[unsafe(no_mangle)]
+pub extern "C" fn haldurap_in_order(run: Run) -> u64
     ensures { result ≡ order_answer (in_order run) }
 {
-    if order::in_order(run) {
-        return 1;
-    }
-    0
+    order::in_order(&run) as u64
 }
