@@ -27,7 +27,7 @@ import reference as ref
 QUANTITY = {name: quantity for quantity, name in ref.NAMES.items()}
 # the 10 numbers of a page, for each of 362 pages, 8 bytes each; the last page is the default arm and stands in the code
 TABLES, TABLE_BYTES = 10, 362 * 8
-ADDING, OTHERS = ("capi_runs_c", "capi_lists_c", "capi_areas_c", "capi_texts_c"), ("capi_joins_c", "capi_questions_c", "capi_map_c")
+ADDING, OTHERS = ("capi_runs", "capi_lists", "capi_areas", "capi_texts"), ("capi_joins", "capi_questions", "capi_map")
 
 
 def run(*words):

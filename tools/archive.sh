@@ -11,7 +11,7 @@ objects=target/archive
 rm -f target/libhaldurap.a
 rm -rf "$objects"
 mkdir -p "$objects"
-for crate in capi_runs_c capi_joins_c capi_lists_c capi_areas_c capi_questions_c capi_map_c capi_texts_c; do
+for crate in capi_runs capi_joins capi_lists capi_areas capi_questions capi_map capi_texts; do
     echo "proving and building $crate"
     (cd "crates/$crate" && rt lib) > "$objects/$crate.log" 2>&1 || { cat "$objects/$crate.log"; echo "tools/archive.sh: $crate is not proved, no archive is written"; exit 1; }
     (cd "$objects" && ar x "../../crates/$crate/out/lib$crate.a")
