@@ -29,14 +29,13 @@ fn page_of(n: usize) -> [[u64; 5]; 2]
 }
 
 // The place of a class in the book.
+#[tactic(auto, unfolding(book_entries::specs::Book::place_of))]
 fn place_of(class: u64) -> usize
     requires { (1 ≤ class) × (class ≤ 7) × (class ≡ 5 → ⊥) }
     ensures { result ≡ place_of class }
 {
-    if class < 5 {
-        return (class - 1) as usize;
-    }
-    (class - 2) as usize
+    let place = if class < 5 { class - 1 } else { class - 2 };
+    place as usize
 }
 
 // The line of a class at a speed; a page holds two.

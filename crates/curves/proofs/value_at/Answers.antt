@@ -7,9 +7,6 @@ use Rattle.units.proofs.Signed.{back, arg, cast, add, mul, unsigned}
 use Rattle.curves.proofs.Curves.{horner_quadratic}
 use Rattle.curves.proofs.value_at.Goals as goal
 
-pub overflow_mul-result : goal.overflow_mul-result
-overflow_mul-result c = (mul tt (arg tt c.requires.first) (cast tt c.requires.speed)).fit
-
 pub overflow_add-result : goal.overflow_add-result
 overflow_add-result c = (add tt (back (mul tt (arg tt c.requires.first) (cast tt c.requires.speed))) (arg tt c.requires.second)).fit
 

@@ -2,27 +2,12 @@
 use mathlib.Core.Path.{refl, ◌∙◌}
 use Prim.Native.Nat.{◌+◌, ◌<◌, ◌*◌}
 use native.Mathlib.Omega.{arith}
-use Rattle.units.proofs.Tab.{filled_none, filled_at, filled}
-use Rattle.curves.proofs.Curves.{read_small, read_value}
+use Rattle.units.proofs.Tab.{filled_none, filled_at}
+use Rattle.curves.proofs.Curves.{read_value}
 use Rattle.curves.proofs.values_of.Goals as goal
 
 pub loop-q-init : goal.loop-q-init
 loop-q-init c = filled_none _ _ _ refl
-
-pub value_at-requires : goal.value_at-requires
-value_at-requires c =
-    let q = c.loop-q.q in
-    read_small c.args.t.now q _ (c.requires.0.row q (omega (arith, c.loop-q-test.true)))
-
-pub value_at-requires-in-loop-q : goal.value_at-requires-in-loop-q
-value_at-requires-in-loop-q c =
-    let q = c.loop-q.q in
-    read_small c.args.t.now q _ (c.requires.1.row q (omega (arith, c.loop-q-test.true)))
-
-pub value_at-requires-in-loop-q-2 : goal.value_at-requires-in-loop-q-2
-value_at-requires-in-loop-q-2 c =
-    let q = c.loop-q.q in
-    read_small c.args.t.now q _ (c.requires.2.row q (omega (arith, c.loop-q-test.true)))
 
 pub loop-q-preserved : goal.loop-q-preserved
 loop-q-preserved c =
@@ -33,6 +18,3 @@ loop-q-preserved c =
     let v1 = c.value_at-in-loop-q.ensures ∙ read_value t c.args.speeds.urban.0 c.args.speeds.rural.0 c.args.speeds.highway.0 q 1 (q * 3 + 1) (omega arith) (omega arith) (c.requires.1.row q h) in
     let v2 = c.value_at-in-loop-q-2.ensures ∙ read_value t c.args.speeds.urban.0 c.args.speeds.rural.0 c.args.speeds.highway.0 q 2 (q * 3 + 2) (omega arith) (omega arith) (c.requires.2.row q h) in
     filled_at (q * 3 + 2) _ _ (filled_at (q * 3 + 1) (q * 3 + 2) _ (filled_at (q * 3) (q * 3 + 1) _ c.loop-q.invariant refl refl (omega (arith, h)) v0) refl (omega arith) (omega (arith, h)) v1) refl (omega arith) (omega (arith, h)) v2
-
-pub returns : goal.returns
-returns c = filled c.loop-q.invariant (omega arith) (omega arith)
