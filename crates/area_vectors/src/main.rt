@@ -1,181 +1,71 @@
 // Makes the calls on areas that standard input lists, one to a line; tools/area_vectors.py has the expected answers.
 #![tactic(auto)]
 
-use harness_prints::{print, print_part};
-use inventory::{Head, Record, Run};
+use harness_answers::print_answer;
+use harness_lines::{each_line, number};
+use harness_prints::{print, print_case, print_numbers};
+use inventory::Run;
 use std::io;
 use std::io::{Read, Write};
+use units::Grams;
+
+// The whole grams of each amount.
+fn print_grams(out: &mut impl Write, grams: &[Grams]) -> io::Result<()> {
+    for g in grams {
+        print(out, g.0)?;
+    }
+    Ok(())
+}
 
 // Every number of a run, in the order of its fields.
-fn print_run(out: &mut impl Write, run: Run) -> io::Result<()> {
-    let mut i: usize = 0;
-    while i < 21 {
-        print(out, harness_runs::field_at(run, i))?;
-        i += 1;
+fn print_fields(out: &mut impl Write, run: &Run) -> io::Result<()> {
+    print(out, run.trip)?;
+    print_numbers(out, &run.x)?;
+    print(out, run.count)?;
+    for km in &run.km {
+        print(out, km.0)?;
     }
-    print_sums(out, run, 21)?;
-    print_sums(out, run, 22)?;
-    print_totals(out, run, 141)?;
-    print_totals(out, run, 142)
+    print_grams(out, &run.grams)?;
+    print_numbers(out, &run.rests)?;
+    print_grams(out, &run.total_grams)?;
+    print_numbers(out, &run.total_rests)
 }
 
-// Every other of the 120 numbers of the sums: the grams from 21 on, the rests from 22 on.
-fn print_sums(out: &mut impl Write, run: Run, from: usize) -> io::Result<()> {
-    let mut i: usize = 0;
-    while i < 60 {
-        if from < 1000 {
-            print(out, harness_runs::field_at(run, from + i * 2))?;
-        }
-        i += 1;
-    }
-    Ok(())
-}
-
-// The same of the 30 numbers of the totals, from 141 and 142 on.
-fn print_totals(out: &mut impl Write, run: Run, from: usize) -> io::Result<()> {
-    let mut i: usize = 0;
-    while i < 15 {
-        if from < 1000 {
-            print(out, harness_runs::field_at(run, from + i * 2))?;
-        }
-        i += 1;
-    }
-    Ok(())
-}
-
-// Every number lent.
-fn print_all(out: &mut impl Write, numbers: &[u64]) -> io::Result<()> {
-    let mut i: usize = 0;
-    while i < numbers.len() {
-        print(out, numbers[i])?;
-        i += 1;
-    }
-    Ok(())
-}
-
-fn opening(out: &mut impl Write, numbers: &mut [u64], head: Head) -> io::Result<()> {
-    let v = area_opening::open_areas(numbers, head);
-    print(out, units::verdict_number(v))
-}
-
-// The record added so many times; the last number is printed.
-fn adding(
-    out: &mut impl Write,
-    numbers: &mut [u64],
-    area: u64,
-    rec: Record,
-    times: u64,
-) -> io::Result<()> {
-    let mut number: u64 = 0;
-    let mut i: u64 = 0;
-    while i < times {
-        let v = area_recording::add_area(numbers, area, rec);
-        number = units::verdict_number(v);
-        i += 1;
-    }
-    print(out, number)
-}
-
-fn asking(out: &mut impl Write, numbers: &[u64], area: u64) -> io::Result<()> {
-    let a = area_recording::area_run(numbers, area);
-    let v = a.verdict;
-    print(out, units::verdict_number(v))?;
-    print_run(out, a.run)
-}
-
-// The number of the run of an area, and of it the number and grams of a total, 0 and 0 where there is no run.
-fn asking_total(
+// The number of the run of an area, and of it the answer of a total, 0 and 0 where there is no run.
+fn print_total(
     out: &mut impl Write,
     numbers: &[u64],
     area: u64,
     fuel: u64,
     quantity: u64,
 ) -> io::Result<()> {
-    let a = area_recording::area_run(numbers, area);
-    let v = a.verdict;
-    let number = units::verdict_number(v);
-    print(out, number)?;
-    if number != 0 {
-        print(out, 0)?;
-        return print(out, 0);
-    }
-    let t = harness_runs::answer_of(totals::total(a.run, fuel, quantity));
-    print(out, t.number)?;
-    print(out, t.grams.0)
-}
-
-// What a line does to the numbers lent.
-fn changed(out: &mut impl Write, b: &[u8], at: usize, numbers: &mut [u64]) -> io::Result<()> {
-    // open L T..
-    if harness_lines::byte_at(b, at) == b'o' {
-        return opening(out, numbers, harness_records::head_of(b, at));
-    }
-    // add AREA TIMES CLASS VEHICLES KM SHARES SPEEDS: behind the area as the program `vectors` has it
-    if harness_lines::byte_at(b, harness_lines::behind(b, at)) == b'd' {
-        let times = harness_lines::word(b, at, 1);
-        adding(
-            out,
-            numbers,
-            harness_lines::number(b, at, 1),
-            harness_records::record_of(b, times),
-            harness_lines::number(b, at, 2),
-        )?;
-    }
-    Ok(())
-}
-
-// The same to the first n numbers.
-fn changed_part(
-    out: &mut impl Write,
-    b: &[u8],
-    at: usize,
-    numbers: &mut [u64],
-    n: u64,
-) -> io::Result<()> {
-    if n <= 2880 {
-        let k = n as usize;
-        if k <= numbers.len() {
-            changed(out, b, at, &mut numbers[..k])?;
+    match area_recording::area_run(numbers, area) {
+        Ok(run) => {
+            print(out, 0)?;
+            print_answer(out, &totals::total(&run, fuel, quantity))
         }
+        Err(reason) => print_numbers(out, &[units::refusal_number(reason), 0, 0]),
     }
-    Ok(())
 }
 
-// What a line asks of the numbers lent.
-fn asked(out: &mut impl Write, b: &[u8], at: usize, numbers: &[u64]) -> io::Result<()> {
-    let c = harness_lines::byte_at(b, at);
-    // run AREA
-    if c == b'r' {
-        asking(out, numbers, harness_lines::number(b, at, 1))?;
-    }
-    // total AREA FUEL QUANTITY
-    if c == b't' {
-        asking_total(
-            out,
-            numbers,
-            harness_lines::number(b, at, 1),
-            harness_lines::number(b, at, 2),
-            harness_lines::number(b, at, 3),
-        )?;
-    }
-    Ok(())
-}
-
-// The same of the first n numbers.
-fn asked_part(
-    out: &mut impl Write,
-    b: &[u8],
-    at: usize,
-    numbers: &[u64],
-    n: u64,
-) -> io::Result<()> {
-    if n <= 2880 {
-        let k = n as usize;
-        if k <= numbers.len() {
-            asked(out, b, at, &numbers[..k])?;
+// What a line does to the numbers lent, or asks of them.
+fn change(out: &mut impl Write, line: &[u8], numbers: &mut [u64]) -> io::Result<()> {
+    let area = number(line, 1);
+    match line {
+        // open L T..
+        [b'o', ..] => harness_areas::open(out, numbers, line),
+        // add AREA TIMES CLASS VEHICLES KM SHARES SPEEDS
+        [b'a', ..] => harness_areas::add(out, numbers, line),
+        // run AREA
+        [b'r', ..] => {
+            let run = area_recording::area_run(numbers, area);
+            print(out, units::answer_number(&run))?;
+            print_fields(out, &harness_adds::given(run))
         }
+        // total AREA FUEL QUANTITY
+        [b't', ..] => print_total(out, numbers, area, number(line, 2), number(line, 3)),
+        _ => Ok(()),
     }
-    Ok(())
 }
 
 // Changes a number by hand.
@@ -188,74 +78,36 @@ fn put(numbers: &mut [u64], place: u64, value: u64) {
     }
 }
 
-// What a line does to the numbers.
-fn change(
-    out: &mut impl Write,
-    b: &[u8],
-    at: usize,
-    numbers: &mut [u64],
-    lent: u64,
-) -> io::Result<()> {
-    // put PLACE VALUE
-    if harness_lines::byte_at(b, at) == b'p' {
-        put(
-            numbers,
-            harness_lines::number(b, at, 1),
-            harness_lines::number(b, at, 2),
-        );
-        return Ok(());
-    }
-    changed_part(out, b, at, numbers, lent)
-}
-
-// The common use.
-fn print_common(out: &mut impl Write, numbers: &[u64]) -> io::Result<()> {
-    if 2736 < numbers.len() {
-        print(out, numbers[2736])?;
+// What a line does to the first numbers, as many as are lent.
+fn change_lent(out: &mut impl Write, line: &[u8], numbers: &mut [u64], lent: u64) -> io::Result<()> {
+    if lent <= 2880 {
+        let n = lent as usize;
+        if n <= numbers.len() {
+            return change(out, line, &mut numbers[..n]);
+        }
     }
     Ok(())
 }
 
-// One line: the line itself, then the answers. Gives how many numbers are lent from then on.
-fn line(
-    out: &mut impl Write,
-    b: &[u8],
-    at: usize,
-    numbers: &mut [u64],
-    lent: u64,
-) -> io::Result<u64> {
-    print_part(out, b, at, harness_lines::line_end(b, at))?;
-    out.write_all(b" =")?;
-    let c = harness_lines::byte_at(b, at);
-    let second = harness_lines::byte_at(b, harness_lines::behind(b, at));
-    change(out, b, at, numbers, lent)?;
-    asked_part(out, b, at, numbers, lent)?;
-    // all
-    if second == b'l' {
-        print_all(out, numbers)?;
+// One line: the line itself, then what it does or asks.
+fn case(out: &mut impl Write, line: &[u8], numbers: &mut [u64], lent: &mut u64) -> io::Result<()> {
+    print_case(out, line)?;
+    match line {
+        // put PLACE VALUE
+        [b'p', ..] => put(numbers, number(line, 1), number(line, 2)),
+        // lend N
+        [b'l', ..] => *lent = number(line, 1),
+        // all
+        [b'a', b'l', ..] => print_numbers(out, numbers)?,
+        _ => change_lent(out, line, numbers, *lent)?,
     }
-    if second == b'd' {
-        print_common(out, numbers)?;
+    // behind an add the common use
+    if let [b'a', b'd', ..] = line {
+        if 2736 < numbers.len() {
+            print(out, numbers[2736])?;
+        }
     }
-    out.write_all(b"\n")?;
-    // lend N
-    if c == b'l' {
-        return Ok(harness_lines::number(b, at, 1));
-    }
-    Ok(lent)
-}
-
-// Every line, one after another.
-fn lines(out: &mut impl Write, b: &[u8], numbers: &mut [u64]) -> io::Result<()> {
-    let mut lent: u64 = 2737;
-    let mut at: usize = 0;
-    let mut turns: u64 = 0;
-    while turns < 100000 && at < b.len() {
-        lent = line(out, b, at, numbers, lent)?;
-        at = harness_lines::behind(b, harness_lines::line_end(b, at));
-        turns += 1;
-    }
-    Ok(())
+    out.write_all(b"\n")
 }
 
 // At most so many bytes of cases are read.
@@ -263,7 +115,9 @@ const ROOM: u64 = 524288;
 
 fn main(rt: HostRuntime) -> io::Result<()> {
     let mut cases = Vec::new(rt.alloc());
-    let mut numbers = [0u64; 2880];
     rt.reader().take(ROOM).read_to_end(&mut cases)?;
-    lines(&mut rt.stdout(), &cases, &mut numbers)
+    let mut out = rt.stdout();
+    let mut numbers = [0; 2880];
+    let mut lent = 2737;
+    each_line(&cases, |line| case(&mut out, line, &mut numbers, &mut lent))
 }

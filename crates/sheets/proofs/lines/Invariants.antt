@@ -1,6 +1,0 @@
--- The loop of `sheets::lines` ends.
-use Rattle.std.proofs.Common.{◌-◌}
-use Rattle.sheets.proofs.lines.Given as goal
-
-abbrev pub decreases-loop-turns : goal.decreases-loop-turns
-decreases-loop-turns g l = 100000 - l.turns

@@ -1,6 +1,0 @@
--- The loop of `sheets::print_fields` ends.
-use Rattle.std.proofs.Common.{◌-◌}
-use Rattle.sheets.proofs.print_fields.Given as goal
-
-abbrev pub decreases-loop-i : goal.decreases-loop-i
-decreases-loop-i g l = 171 - l.i
