@@ -3,7 +3,8 @@ use Prim.Native.Nat.{ℕ, suc, ◌+◌, ◌*◌, ◌/◌, ◌%◌, ◌^◌, ◌�
 use mathlib.Core.Path.{◌≡◌, refl, sym, ap, ◌∙◌}
 use mathlib.Core.List.{List, [], ◌∷◌, ◌++◌, map, append_assoc}
 use mathlib.Core.Bool.{true, false, cond}
-use mathlib.Core.Option.{some}
+use Rattle.std.specs.Prelude.{Some}
+use Rattle.fields.specs.Field.{parse}
 use native.Mathlib.Omega.{arith}
 use lib.IntN.{ℤ, pos, negsuc, nat_abs}
 use lib.ListN.{length, get_or, take, drop, length-append}
@@ -34,28 +35,27 @@ use Rattle.inventory.proofs.Records.{climate, period_taken, record_limits}
 use Rattle.accuracy.specs.Claim.{run_after}
 use Rattle.verdicts.proofs.Verdicts.{by_period}
 use Rattle.recording.proofs.Runs.{open_by, run_opened, ready}
-use Rattle.lines.specs.Lines.{lines, head_widths, record_widths, total, fields, signed_of, number_in, numbers_in, numbers_of}
+use Rattle.lines.specs.Lines.{lines, head_widths, record_widths, total, fields, numbers_in, numbers_of}
 use Rattle.lines.specs.Records.{counts_of, head_of, record_of}
-use Rattle.sheet.specs.Sheet.{from_records, from_head, sheet_of}
+use Rattle.sheet.specs.Sheet.{Outcome, decided, from_records, from_head, sheet_of}
 use Rattle.form.specs.Rendering.{render_signed, render_line, temperature_in, is_dated, days_of_line, head_numbers, render_head, record_numbers, render_record, render_records, render_sheet}
 use Rattle.form.specs.Claim.{TakenInTurn, StatedForm}
 use Rattle.lines.proofs.Lines.{line_length, first_line_lem, whole_line, line_numbers, other_form}
-use Rattle.sheet.proofs.Walk.{record_made, decided_taken}
 
 -- ---- a field
 
 -- the rendering of z in w bytes has w bytes and says z
 record Fits (w : ℕ) (z : ℤ) : Type 0 where
   long : length (render_signed w z) ≡ w
-  says : number_in (render_signed w z) ≡ some z
+  says : parse (render_signed w z) ≡ Some z
 
 fit_pos : (w n : ℕ) → n < 10 ^ suc w → n < 1000000000 → Fits (suc w) (pos n)
-unfolding render_signed number_in
-fit_pos w n h k = record { long = length_render (suc w) n; says = ap signed_of (taken w n h k) }
+unfolding render_signed
+fit_pos w n h k = record { long = length_render (suc w) n; says = taken w n h k }
 
 fit_neg : (w n : ℕ) → suc n < 10 ^ w → suc n < 1000000000 → Fits (suc w) (negsuc n)
-unfolding render_signed number_in
-fit_neg w n h k = record { long = length_minus w (suc n) h; says = ap signed_of (taken_minus w (suc n) (omega arith) h k) }
+unfolding render_signed
+fit_neg w n h k = record { long = length_minus w (suc n) h; says = taken_minus w (suc n) (omega arith) h k }
 
 -- ---- a line
 
@@ -69,7 +69,7 @@ AllFit (w ∷ ws) (z ∷ zs) = Fits w z × AllFit ws zs
 record Rendered (ws : List ℕ) (zs : List ℤ) (rest l : List ℕ) : Type 0 where
   size : total ws < length l
   lf : get_or l (total ws) 0 ≡ 10
-  numbers : numbers_in (fields ws l) ≡ some zs
+  numbers : numbers_in (fields ws l) ≡ Some zs
   behind : drop (total ws + 1) l ≡ rest
 
 rendered : (ws : List ℕ) (zs : List ℤ) (rest : List ℕ) → AllFit ws zs → Rendered ws zs rest (render_line ws zs ++ rest)
@@ -100,12 +100,12 @@ module _ (ws : List ℕ) (zs : List ℤ) (rest l : List ℕ) (r : Rendered ws zs
       first_line_lem l (omega (arith, r.size))
       ∙ ap (λ (k : List ℕ). take (line_length l) l ∷ lines k) (ap (λ (k : ℕ). drop k l) (whole_line ws l zs r.size r.lf r.numbers) ∙ r.behind)
 
-  line_says : numbers_of ws (take (line_length l) l) ≡ some zs
+  line_says : numbers_of ws (take (line_length l) l) ≡ Some zs
   line_says = line_numbers ws l zs r.size r.lf r.numbers
 
 -- ---- a record line
 
-counts_of_lem : (ns : List ℕ) → counts_of (map pos ns) ≡ some ns
+counts_of_lem : (ns : List ℕ) → counts_of (map pos ns) ≡ Some ns
 unfolding counts_of
 counts_of_lem [] = refl
 counts_of_lem (n ∷ ns) = rw (counts_of_lem ns)
@@ -148,10 +148,14 @@ module _ (run : Run) (rec : Record) (z : add_number run rec ≡ 0) (rest : List 
   unfolding render_record
   record_rendered = rendered record_widths (map pos (record_numbers rec)) rest (record_fits rec (ready run rec z).own)
 
-  record_taken : record_of (take (line_length (render_record rec ++ rest)) (render_record rec ++ rest)) ≡ some rec
+  record_taken : record_of (take (line_length (render_record rec ++ rest)) (render_record rec ++ rest)) ≡ Some rec
+  unfolding record_of
   record_taken =
-      record_made (take (line_length (render_record rec ++ rest)) (render_record rec ++ rest))
-      ∙ rw (line_says record_widths (map pos (record_numbers rec)) rest (render_record rec ++ rest) record_rendered, counts_of_lem (record_numbers rec))
+      rw (line_says record_widths (map pos (record_numbers rec)) rest (render_record rec ++ rest) record_rendered, counts_of_lem (record_numbers rec))
+
+decided_taken : (number n : ℕ) (rest : Outcome) → number ≡ 0 → decided number n rest ≡ rest
+unfolding decided
+decided_taken number n rest e = rw e
 
 pub records_taken : (run : Run) (n : ℕ) (recs : List Record) → TakenInTurn run recs
     → from_records run n (lines (render_records recs)) ≡ record { number = 0; line = 0; run = run_after run recs }
@@ -185,8 +189,8 @@ days_fit period.Year z = tt
 days_fit (period.Days d) z = let t = days_facts d z in (day_fits d.first t.first, (day_fits d.last t.last, tt))
 
 -- a line of either form is read as what it says
-form_read : (p : Period) (trip : ℕ) (temps : ℕ → ℤ) (line : List ℕ) → numbers_of (head_widths (is_dated p)) line ≡ some (pos trip ∷ (tab temps 12 ++ days_of_line p))
-    → head_of line ≡ some (record { trip = trip; temps = tab temps 12; period = p })
+form_read : (p : Period) (trip : ℕ) (temps : ℕ → ℤ) (line : List ℕ) → numbers_of (head_widths (is_dated p)) line ≡ Some (pos trip ∷ (tab temps 12 ++ days_of_line p))
+    → head_of line ≡ Some (record { trip = trip; temps = tab temps 12; period = p })
 unfolding head_of tab total head_widths
 form_read period.Year trip temps line e = rw e
 form_read (period.Days d) trip temps line e = rw (other_form (head_widths true) (head_widths false) line _ e (λ q. omega arith), e)
@@ -244,7 +248,7 @@ module _ (head : Head) (z : open_number head ≡ 0) where
   unfolding render_head
   head_rendered rest = rendered (head_widths (is_dated head.period)) (head_numbers head) rest head_fits
 
-  head_taken : (rest : List ℕ) → head_of (take (line_length (render_head head ++ rest)) (render_head head ++ rest)) ≡ some twelve
+  head_taken : (rest : List ℕ) → head_of (take (line_length (render_head head ++ rest)) (render_head head ++ rest)) ≡ Some twelve
   unfolding twelve
   head_taken rest =
       form_read head.period head.trip (temperature_in head) (take (line_length (render_head head ++ rest)) (render_head head ++ rest))

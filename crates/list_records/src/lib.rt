@@ -4,8 +4,8 @@
 ghost use Rattle.std.specs.Prelude.{◌≡◌, ◌+◌, ◌≤◌, length};
 ghost use Rattle.list_records.specs.Record.{record_at};
 
-use inventory::{Record, Shares, Speeds};
-use units::Speed;
+use inventory::{Record, Shares};
+use units::{Speed, Speeds};
 
 // The record whose nine numbers start at a place.
 pub fn record_at(numbers: &[u64], at: usize) -> Record
