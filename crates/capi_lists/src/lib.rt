@@ -2,12 +2,15 @@
 #![tactic(auto)]
 
 ghost use Rattle.std.specs.Prelude.{◌≡◌};
-ghost use Rattle.sheet.specs.Sheet.{sheet_of};
+ghost use Rattle.sheet.specs.Sheet.{read_outcome, sheet_of};
 ghost use Rattle.capi_heads.specs.Heads.{head_from};
-ghost use Rattle.capi_lists.specs.Answers.{list_answer, sheet_answer};
+ghost use Rattle.capi_lists.specs.Answers.{list_answer, added_answer, sheet_answer};
 
+use add_list::ListAdded;
 use capi_heads::HeadNumbers;
 use inventory::Run;
+use sheet::BadLine;
+use units::Refusal;
 
 // A number, how many records were taken, the place and number of the first refused one, and a run.
 #[repr(C)]
@@ -20,6 +23,39 @@ pub struct ListAnswer {
     pub run: Run,
 }
 
+impl From<Result<ListAdded, Refusal>> for ListAnswer {
+    ghost from_gives = { λ x y. y ≡ added_answer x };
+
+    #[tactic(auto, unfolding(units::specs::Refusals::answer_number, add_list::specs::Answer::added_run, add_list::specs::Answer::added_taken, add_list::specs::Answer::added_first))]
+    fn from(answer: Result<ListAdded, Refusal>) -> ListAnswer {
+        match answer {
+            Ok(list) => match list.first {
+                Some(first) => ListAnswer {
+                    number: 0,
+                    taken: list.taken,
+                    place: first.place,
+                    refused: units::refusal_number(first.reason),
+                    run: list.run,
+                },
+                None => ListAnswer {
+                    number: 0,
+                    taken: list.taken,
+                    place: 0,
+                    refused: 0,
+                    run: list.run,
+                },
+            },
+            Err(r) => ListAnswer {
+                number: units::refusal_number(r),
+                taken: 0,
+                place: 0,
+                refused: 0,
+                run: recording::zeros(),
+            },
+        }
+    }
+}
+
 // A number and its line, both 0 where the sheet is taken, and a run.
 #[repr(C)]
 #[derive(Clone, Copy)]
@@ -29,33 +65,35 @@ pub struct SheetAnswer {
     pub run: Run,
 }
 
-pub fn haldurap_add_list(head: HeadNumbers, numbers: &[u64]) -> ListAnswer
-    ensures { result ≡ list_answer (head_from head) numbers.now }
-{
-    let a = add_list::add_list(capi_heads::head_from(head), numbers);
-    let v = a.verdict;
-    let list = units::verdict_number(v);
-    let whole = a.run;
-    let first = a.first;
-    ListAnswer {
-        number: list,
-        taken: a.taken,
-        place: first.place,
-        refused: first.number,
-        run: whole,
+impl From<Result<Run, BadLine>> for SheetAnswer {
+    ghost from_gives = { λ x y. y ≡ sheet_answer (read_outcome x) };
+
+    fn from(answer: Result<Run, BadLine>) -> SheetAnswer {
+        match answer {
+            Ok(run) => SheetAnswer {
+                number: 0,
+                line: 0,
+                run,
+            },
+            Err(bad) => SheetAnswer {
+                number: units::refusal_number(bad.reason),
+                line: bad.line,
+                run: recording::zeros(),
+            },
+        }
     }
 }
 
-pub fn haldurap_sheet(text: &[u8]) -> SheetAnswer
+#[unsafe(no_mangle)]
+pub extern "C" fn haldurap_add_list(head: HeadNumbers, numbers: &[u64]) -> ListAnswer
+    ensures { result ≡ list_answer (head_from head) numbers.now }
+{
+    ListAnswer::from(add_list::add_list(capi_heads::head_from(head), numbers))
+}
+
+#[unsafe(no_mangle)]
+pub extern "C" fn haldurap_sheet(text: &[u8]) -> SheetAnswer
     ensures { result ≡ sheet_answer (sheet_of text.now) }
 {
-    let s = sheet::read_sheet(text);
-    let v = s.verdict;
-    let n = units::verdict_number(v);
-    let run = s.run;
-    SheetAnswer {
-        number: n,
-        line: s.line,
-        run,
-    }
+    SheetAnswer::from(sheet::read_sheet(text))
 }

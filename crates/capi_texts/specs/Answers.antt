@@ -1,8 +1,9 @@
 -- Answers about texts as they cross to C: a number and the values (SPECIFICATION, "C interface").
 -- Assumes nothing.
 use Rattle.std.specs.Prelude.{ℕ, List}
-use Rattle.listing.specs.Report.{ReportAnswer}
-use Rattle.reporting.specs.Reporting.{text_number, text_line, text_of}
+use Rattle.listing.specs.Report.{ReportAnswer, reported_answer}
+use Rattle.reporting.specs.declared.SheetText.{SheetText}
+use Rattle.reporting.specs.Reporting.{text_number, text_line, text_of, bad_number, bad_line}
 use Rattle.capi_texts.specs.declared.LengthAnswer.{LengthAnswer}
 use Rattle.capi_texts.specs.declared.TextAnswer.{TextAnswer}
 
@@ -13,3 +14,13 @@ length_answer a = record { number = a.number; bytes = a.bytes }
 abbrev pub text_answer : List ℕ → List ℕ → TextAnswer
 text_answer bytes buffer =
     record { number = (text_of bytes buffer).number; bytes = (text_of bytes buffer).bytes; sheet = text_number bytes; line = text_line bytes }
+
+-- the same from what a report of a sheet gives
+abbrev pub sheet_text_answer : SheetText → TextAnswer
+sheet_text_answer a =
+    record {
+      number = (reported_answer a.text).number;
+      bytes = (reported_answer a.text).bytes;
+      sheet = bad_number a.sheet;
+      line = bad_line a.sheet;
+    }

@@ -4,10 +4,11 @@
 ghost use Rattle.std.specs.Prelude.{◌≡◌};
 ghost use Rattle.listing.specs.Report.{reported_answer, report_of, report_buffer};
 ghost use Rattle.reporting.specs.Reporting.{text_buffer};
-ghost use Rattle.capi_texts.specs.Answers.{length_answer, text_answer};
+ghost use Rattle.capi_texts.specs.Answers.{length_answer, text_answer, sheet_text_answer};
 
 use inventory::Run;
-use listing::Reported;
+use reporting::SheetText;
+use units::Refusal;
 
 // A number, 0 where it is written, and a length in bytes.
 #[repr(C)]
@@ -15,6 +16,21 @@ use listing::Reported;
 pub struct LengthAnswer {
     pub number: u64,
     pub bytes: usize,
+}
+
+impl From<Result<usize, Refusal>> for LengthAnswer {
+    ghost from_gives = { λ x y. y ≡ length_answer (reported_answer x) };
+
+    #[tactic(auto, unfolding(listing::specs::Report::reported_answer))]
+    fn from(answer: Result<usize, Refusal>) -> LengthAnswer {
+        match answer {
+            Ok(bytes) => LengthAnswer { number: 0, bytes },
+            Err(r) => LengthAnswer {
+                number: units::refusal_number(r),
+                bytes: 0,
+            },
+        }
+    }
 }
 
 // A number, 0 where the text is written, its length in bytes, and the sheet's own number and line.
@@ -27,41 +43,41 @@ pub struct TextAnswer {
     pub line: usize,
 }
 
-fn length_of(r: Reported) -> LengthAnswer
-    ensures { result ≡ length_answer (reported_answer r) }
-{
-    match r {
-        Reported::Written(n) => LengthAnswer {
-            number: 0,
-            bytes: n,
-        },
-        Reported::Refused(x) => LengthAnswer {
-            number: units::refusal_number(x),
-            bytes: 0,
-        },
+impl From<SheetText> for TextAnswer {
+    ghost from_gives = { λ x y. y ≡ sheet_text_answer x };
+
+    #[tactic(auto, unfolding(reporting::specs::Reporting::bad_number, reporting::specs::Reporting::bad_line))]
+    fn from(answer: SheetText) -> TextAnswer {
+        let written = LengthAnswer::from(answer.text);
+        match answer.sheet {
+            Ok(()) => TextAnswer {
+                number: written.number,
+                bytes: written.bytes,
+                sheet: 0,
+                line: 0,
+            },
+            Err(bad) => TextAnswer {
+                number: written.number,
+                bytes: written.bytes,
+                sheet: units::refusal_number(bad.reason),
+                line: bad.line,
+            },
+        }
     }
 }
 
-pub fn haldurap_report(run: Run, buffer: &mut [u8]) -> LengthAnswer
+#[unsafe(no_mangle)]
+pub extern "C" fn haldurap_report(run: Run, buffer: &mut [u8]) -> LengthAnswer
     ensures answer { result ≡ length_answer (report_of run buffer.old) }
     ensures bytes { buffer.new ≡ report_buffer run buffer.old }
 {
-    length_of(listing::write_report(run, buffer))
+    LengthAnswer::from(listing::write_report(&run, buffer))
 }
 
-pub fn haldurap_report_sheet(text: &[u8], buffer: &mut [u8]) -> TextAnswer
+#[unsafe(no_mangle)]
+pub extern "C" fn haldurap_report_sheet(text: &[u8], buffer: &mut [u8]) -> TextAnswer
     ensures answer { result ≡ text_answer text.now buffer.old }
     ensures bytes { buffer.new ≡ text_buffer text.now buffer.old }
 {
-    let a = reporting::report_sheet(text, buffer);
-    let t = a.text;
-    let written = length_of(t);
-    let v = a.verdict;
-    let own = units::verdict_number(v);
-    TextAnswer {
-        number: written.number,
-        bytes: written.bytes,
-        sheet: own,
-        line: a.line,
-    }
+    TextAnswer::from(reporting::report_sheet(text, buffer))
 }
