@@ -3,7 +3,10 @@ use mathlib.Core.Path.{◌≡◌, refl, sym, ◌∙◌}
 use mathlib.Core.List.{List}
 use Prim.Native.Nat.{ℕ, ◌+◌, ◌*◌, ◌%◌, ◌≤◌, ◌<◌}
 use native.Mathlib.Omega.{arith}
+use borrow.Rule.Slice.PartMut.{put_mid}
 use lib.ListN.{length, set}
+use Rattle.units.specs.Lists.{tab}
+use Rattle.units.proofs.Tab.{tab_at, tab_length}
 use borrow.Author.Tests.{lt-ltb, eq-eqb, ne_eqb}
 use Rattle.units.specs.Grounds.{first_fit}
 use Rattle.units.proofs.Between.{Between, between_none, between_more, between}
@@ -13,12 +16,8 @@ use Rattle.inventory.specs.Opening.{open_number, open_run}
 use Rattle.areas.specs.Areas.{Areas, opened_areas}
 use Rattle.areas.specs.Numbers.{run_number, areas_number, numbers_of}
 use Rattle.areas.specs.Calls.{open_areas_number, open_areas_numbers}
-use Rattle.area_runs.specs.Written.{written_at}
 use Rattle.area_runs.proofs.Written.{between_part}
-
--- sixteen times one run
-abbrev pub same_runs : Run → Areas
-same_runs run = record { runs = λ i. run; common = 0 }
+use Rattle.area_opening.specs.Opening.{same_runs}
 
 -- a loop has written the run to the first i areas
 pub record Spread (run : Run) (numbers : List ℕ) (i : ℕ) (l : List ℕ) : Type 0 where
@@ -31,13 +30,15 @@ same_number : (run : Run) (i k j : ℕ) → j ≡ i * 171 + k → i < 16 → k <
 unfolding areas_number
 same_number run i k j e h l = let z : j % 171 ≡ k = omega arith in rw (lt-ltb j 2736 (omega arith), z)
 
-pub spread_more : (run : Run) (numbers : List ℕ) (i : ℕ) (l m : List ℕ) → i < 16 → Spread run numbers i l → m ≡ written_at l (i * 171) (run_number run) 171
-    → Spread run numbers (i + 1) m
-spread_more run numbers i l m h p e =
-    rw e
+-- k is the code's word for 171
+pub spread_more : (run : Run) (numbers : List ℕ) (i k : ℕ) (l ys : List ℕ) → i < 16 → k ≡ 171 → Spread run numbers i l → ys ≡ tab (run_number run) 171
+    → Spread run numbers (i + 1) (put_mid (i * 171) k l ys)
+spread_more run numbers i k l ys h e p q =
+    rw (e, q)
     (record {
       part =
-          between_part (run_number run) 171 p.part (omega arith) (omega arith) (λ k b. sym (same_number run i k (i * 171 + k) refl h b)) ((i + 1) * 171)
+          between_part (tab (run_number run) 171) 171 p.part (omega arith) (omega arith) (tab_length (run_number run) 171)
+          (λ k b. tab_at 0 (run_number run) 171 k b ∙ sym (same_number run i k (i * 171 + k) refl h b)) ((i + 1) * 171)
           (omega arith);
     })
 

@@ -6,6 +6,7 @@ use mathlib.Core.List.{List}
 use Prim.Native.Nat.{ℕ, ◌*◌, ◌-◌, ◌/◌, ◌%◌, ◌+◌, ◌≤◌, ◌<◌}
 use native.Mathlib.Nat.{eq-or-lt_of_le}
 use native.Mathlib.Omega.{arith}
+use borrow.Rule.Slice.PartMut.{put_mid}
 use lib.Dec.{eqb}
 use lib.ListN.{length, set, get_or, length-set}
 use lib.Seq.{get_or-set_same, get_or-set_other, ext_get_or}
@@ -25,40 +26,42 @@ use Rattle.areas.specs.Calls.{numbers_in_order, add_area_number, add_area_number
 use Rattle.areas.proofs.Numbers.{number_read}
 use Rattle.areas.proofs.Order.{size_is, areas_ok, run_ok, count_most, common_most}
 use Rattle.areas.proofs.Adding.{area_taken, add_in_turn}
-use Rattle.area_runs.specs.Written.{written_number, written_at}
-use Rattle.area_runs.proofs.Written.{put_in, put_kept, put_length, put_read}
+use Rattle.area_runs.proofs.Written.{put_in, put_kept, put_length}
 
 -- ---- one run and the common use written anew
 
-module _ (numbers : List ℕ) (area : ℕ) (run : Run) (common : ℕ) (size : length numbers ≡ 2737) (low : area ≤ 15) where
+module _ (numbers ys : List ℕ) (area : ℕ) (run : Run) (common : ℕ) (size : length numbers ≡ 2737) (low : area ≤ 15) (put : ys ≡ tab (run_number run) 171) where
+  its_size : length ys ≡ 171
+  its_size = rw put (tab_length (run_number run) 171)
+
   part_number : (j : ℕ) → j < 2736 → (b : Bool) → eqb (j / 171) area ≡ b
-      → written_number numbers (area * 171) (run_number run) 171 j ≡ areas_number (with_run (areas_of numbers) area run common) j
+      → get_or (put_mid (area * 171) 171 numbers ys) j 0 ≡ areas_number (with_run (areas_of numbers) area run common) j
   unfolding areas_number with_run areas_of
   part_number j h true e =
       let q : j / 171 ≡ area = eqb-true (j / 171) area e in
-      let z : j - area * 171 ≡ j % 171 = omega arith in
-      put_in numbers (area * 171) (run_number run) 171 j (omega arith) (omega arith) ∙ rw (lt-ltb j 2736 h, e, z)
+      put_in (area * 171) 171 numbers ys its_size (omega arith) j (j % 171) (omega arith) (omega arith) ∙ rw put (tab_at 0 (run_number run) 171 (j % 171) (omega arith))
+      ∙ sym (rw (lt-ltb j 2736 h, e))
   part_number j h false e =
       let z : j / 171 * 171 + j % 171 ≡ j = omega arith in
-      sym (put_kept numbers (area * 171) (run_number run) 171 j (λ x y. eqb-false (j / 171) area e (omega arith)))
+      put_kept (area * 171) 171 numbers ys its_size (omega arith) j (λ x y. eqb-false (j / 171) area e (omega arith))
       ∙ sym (rw (lt-ltb j 2736 h, e) (number_read numbers (j / 171 * 171) (j % 171) (omega arith) ∙ ap (λ k. get_or numbers k 0) z))
 
   at_end : areas_number (with_run (areas_of numbers) area run common) 2736 ≡ common
   unfolding areas_number with_run
   at_end = refl
 
-  numbers_with : set (written_at numbers (area * 171) (run_number run) 171) 2736 common ≡ numbers_of (with_run (areas_of numbers) area run common)
+  numbers_with : set (put_mid (area * 171) 171 numbers ys) 2736 common ≡ numbers_of (with_run (areas_of numbers) area run common)
   unfolding numbers_of
   numbers_with =
-      let m = written_at numbers (area * 171) (run_number run) 171 in
+      let m = put_mid (area * 171) 171 numbers ys in
       let F = areas_number (with_run (areas_of numbers) area run common) in
-      let len : length m ≡ 2737 = put_length numbers (area * 171) (run_number run) 171 ∙ size in
+      let len : length m ≡ 2737 = put_length (area * 171) 171 numbers ys its_size (omega arith) ∙ size in
       ext_get_or 0 (set m 2736 common) (tab F 2737) (length-set m 2736 common ∙ len ∙ sym (tab_length F 2737))
       (λ j h.
       let t : j < 2737 = rw (length-set m 2736 common, len) at h in
       ⊎_elim (λ (q : j ≡ 2736). rw q (get_or-set_same m 2736 common 0 (rw len (omega arith)) ∙ sym (tab_at 0 F 2737 2736 (omega arith) ∙ at_end)))
       (λ (q : j < 2736).
-      get_or-set_other m 2736 j common 0 (λ z. omega arith) ∙ put_read numbers (area * 171) (run_number run) 171 j (rw size t) ∙ part_number j q _ refl
+      get_or-set_other m 2736 j common 0 (λ z. omega arith) ∙ part_number j q _ refl
       ∙ sym (tab_at 0 F 2737 j t)) (eq-or-lt_of_le (omega arith)))
 
 -- ---- the add
@@ -92,9 +95,10 @@ module _ (numbers : List ℕ) (area : ℕ) (rec : Record) where
       unfolding areas_of
       add_room = rw e (add_in_turn numbers area rec o low)
 
-      pub numbers_added : (r : Run) (l : List ℕ) (common : ℕ) → r ≡ run_with run rec → l ≡ written_at numbers (area * 171) (run_number r) 171
-          → common ≡ common_after run.count (get_or numbers 2736 0) → add_area_number numbers area rec ≡ 0 → set l 2736 common ≡ add_area_numbers numbers area rec
+      -- k is the code's word for 171
+      pub numbers_added : (k : ℕ) (r : Run) (ys : List ℕ) (count common : ℕ) → k ≡ 171 → r ≡ run_with run rec → ys ≡ tab (run_number r) 171 → count ≡ run.count
+          → common ≡ common_after count (get_or numbers 2736 0) → add_area_number numbers area rec ≡ 0
+          → set (put_mid (area * 171) k numbers ys) 2736 common ≡ add_area_numbers numbers area rec
       unfolding add_area_numbers areas_with areas_of
-      numbers_added r l common p q k z =
-          rw (q, p, k, z, e)
-          (numbers_with numbers area (run_with (run_at numbers (area * 171)) rec) (common_after (run_at numbers (area * 171)).count (get_or numbers 2736 0)) (size_is numbers o) low)
+      numbers_added k r ys count common q p y n d z =
+          rw (q, d, n, z, numbers_with numbers ys area r (common_after run.count (get_or numbers 2736 0)) (size_is numbers o) low y, p, e)

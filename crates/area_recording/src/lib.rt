@@ -2,59 +2,47 @@
 #![tactic(auto)]
 
 ghost use Rattle.std.specs.Prelude.{◌≡◌};
-ghost use Rattle.units.specs.Refusals.{verdict_number};
+ghost use Rattle.units.specs.Refusals.{answer_number};
+ghost use Rattle.inventory.specs.Opening.{given_run};
 ghost use Rattle.areas.specs.Calls.{add_area_number, add_area_numbers, area_run_number, area_run};
 
 use areas::AreaRun;
-use inventory::Record;
-use units::{Refusal, Verdict};
+use inventory::{Record, Run, RunNumbers};
+use units::Refusal;
 
 // Adds a record to an area: 16, 17, 3 to 8, 18, which leave every number as it came.
-pub fn add_area(numbers: &mut [u64], area: u64, rec: Record) -> Verdict
-    ensures number { verdict_number result ≡ add_area_number numbers.old area rec }
+pub fn add_area(numbers: &mut [u64], area: u64, rec: Record) -> Result<(), Refusal>
+    ensures number { answer_number result ≡ add_area_number numbers.old area rec }
     ensures numbers { numbers.new ≡ add_area_numbers numbers.old area rec }
 {
     if !area_order::in_order(numbers) {
-        return Verdict::Refused(Refusal::RunOrder);
+        return Err(Refusal::RunOrder);
     }
     if 15 < area {
-        return Verdict::Refused(Refusal::NoArea);
+        return Err(Refusal::NoArea);
     }
-    let at = area as usize * 171;
-    let run = area_runs::run_at(numbers, at);
+    let i = area as usize;
     let common = numbers[2736];
-    let v = area_room::area_verdict(run.count, common, rec);
-    match v {
-        Verdict::Refused(x) => {
-            return Verdict::Refused(x);
-        }
-        Verdict::Taken => {}
-    }
-    let r = recording::run_with(run, rec);
-    area_runs::put_run(numbers, at, r);
-    numbers[2736] = area_room::common_after(run.count, common);
-    Verdict::Taken
+    let place = AreaRun::at(numbers, i);
+    let count = place.count();
+    area_room::area_verdict(count, common, &rec)?;
+    let mut run = area_runs::run_of(&place);
+    recording::enter(&mut run, rec);
+    area_runs::put_run(&mut numbers[i * 171..i * 171 + 171], &run);
+    numbers[2736] = area_room::common_after(count, common);
+    Ok(())
 }
 
-// The run of an area: 16, 17, which give the run of zeros.
-pub fn area_run(numbers: &[u64], area: u64) -> AreaRun
-    ensures number { verdict_number result.verdict ≡ area_run_number numbers.now area }
-    ensures run { result.run ≡ area_run numbers.now area }
+// The run of an area: 16, 17.
+pub fn area_run(numbers: &[u64], area: u64) -> Result<Run, Refusal>
+    ensures number { answer_number result ≡ area_run_number numbers.now area }
+    ensures run { given_run result ≡ area_run numbers.now area }
 {
     if !area_order::in_order(numbers) {
-        return AreaRun {
-            run: recording::zeros(),
-            verdict: Verdict::Refused(Refusal::RunOrder),
-        };
+        return Err(Refusal::RunOrder);
     }
     if 15 < area {
-        return AreaRun {
-            run: recording::zeros(),
-            verdict: Verdict::Refused(Refusal::NoArea),
-        };
+        return Err(Refusal::NoArea);
     }
-    AreaRun {
-        run: area_runs::run_at(numbers, area as usize * 171),
-        verdict: Verdict::Taken,
-    }
+    Ok(area_runs::run_of(&AreaRun::at(numbers, area as usize)))
 }

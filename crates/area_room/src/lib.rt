@@ -3,29 +3,21 @@
 
 ghost use Rattle.std.specs.Prelude.{◌≡◌, ◌≤◌};
 ghost use Rattle.units.specs.Grounds.{first_fit};
-ghost use Rattle.units.specs.Refusals.{verdict_number};
+ghost use Rattle.units.specs.Refusals.{answer_number};
 ghost use Rattle.areas.specs.Areas.{area_grounds, common_after};
 
 use inventory::Record;
-use units::{Refusal, Verdict};
+use units::Refusal;
 
 // Whether a record is refused in an area with so many records, at this common use: 3 to 8, then 18.
-pub fn area_verdict(count: u64, common: u64, rec: Record) -> Verdict
-    ensures { verdict_number result ≡ first_fit (area_grounds count common rec) }
+pub fn area_verdict(count: u64, common: u64, rec: &Record) -> Result<(), Refusal>
+    ensures { answer_number result ≡ first_fit (area_grounds count common rec.now) }
 {
-    let v = verdicts::record_verdict(rec);
-    match v {
-        Verdict::Refused(x) => {
-            return Verdict::Refused(x);
-        }
-        Verdict::Taken => {}
+    verdicts::record_verdict(rec)?;
+    if 300 <= count && 200 <= common {
+        return Err(Refusal::FullArea);
     }
-    if 300 <= count {
-        if 200 <= common {
-            return Verdict::Refused(Refusal::FullArea);
-        }
-    }
-    Verdict::Taken
+    Ok(())
 }
 
 // The common use after a record in an area with so many records.

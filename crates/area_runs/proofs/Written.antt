@@ -51,6 +51,12 @@ module _ (a m : ℕ) (l ys : List ℕ) (e : length ys ≡ m) (h : a + m ≤ leng
       behind j (j - a) (omega arith) ∙ get_or-append_right ys (post_of a m l) m (j - a) 0 e (omega arith) ∙ get_or-drop m (drop a l) (j - a - m) 0
       ∙ get_or-drop a l (m + (j - a - m)) 0 ∙ ap (λ k. get_or l k 0) q
 
+  pub put_kept : (j : ℕ) → (a ≤ j → j < a + m → ⊥) → get_or (put_mid a m l ys) j 0 ≡ get_or l j 0
+  put_kept j k = ⊎_elim (λ (q : a ≤ j). put_behind j (by_kept j k q)) (put_before j) (le_or_lt a j)
+    where
+      by_kept : (j : ℕ) → (a ≤ j → j < a + m → ⊥) → a ≤ j → a + m ≤ j
+      by_kept j k q = ⊎_elim (λ (z : a + m ≤ j). z) (λ (z : j < a + m). absurd (k q z)) (le_or_lt (a + m) j)
+
 -- one part more; m is the code's word for its length
 module _ {F : ℕ → ℕ} {l₀ : List ℕ} {n lo hi : ℕ} {l : List ℕ} (ys : List ℕ) (m : ℕ) (p : Between 0 F l₀ n lo hi l) (a : lo ≤ hi) (h : hi + m ≤ n)
     (s : length ys ≡ m) (e : (i : ℕ) → i < m → get_or ys i 0 ≡ F (hi + i)) where

@@ -1,20 +1,20 @@
 -- `area_room::area_verdict` meets its contract. Assumes nothing.
-use Rattle.units.specs.Refusals.{verdict_number, refusal_number}
+use mathlib.Core.Logic.{⊎_elim}
+use Prim.Native.Nat.{◌≤◌, ◌<◌}
+use Rattle.units.specs.Refusals.{answer_number, refusal_number}
 use Rattle.area_room.proofs.Room.{area_refused, area_full_lem, room_common, room_own}
 use Rattle.area_room.proofs.area_verdict.Goals as goal
 
-pub returns-in-Refused : goal.returns-in-Refused
-unfolding verdict_number
-returns-in-Refused c = let a = c.args in area_refused a.count a.common a.rec _ _ c.in-Refused.is c.record_verdict-v.ensures
+pub returns-in_err-record_verdict : goal.returns-in_err-record_verdict
+returns-in_err-record_verdict c = area_refused _ _ _ _ c.record_verdict.ensures _ _ c.from_residual.ensures.1 c.in_err-record_verdict.was
 
 pub returns-then-common-ge200 : goal.returns-then-common-ge200
-unfolding verdict_number refusal_number
-returns-then-common-ge200 c = area_full_lem _ _ _ _ c.in-Taken.is c.record_verdict-v.ensures c.if-count-ge300.true c.if-common-ge200.true
+unfolding answer_number refusal_number
+returns-then-common-ge200 c = area_full_lem _ _ _ _ c.record_verdict.ensures _ c.in_ok-record_verdict.was c.if-count-ge300.true c.if-common-ge200.true
 
-pub returns-else-common-ge200 : goal.returns-else-common-ge200
-unfolding verdict_number
-returns-else-common-ge200 c = room_common c.args.count _ _ _ c.in-Taken.is c.record_verdict-v.ensures c.if-common-ge200.false
-
-pub returns-else-count-ge300 : goal.returns-else-count-ge300
-unfolding verdict_number
-returns-else-count-ge300 c = room_own _ c.args.common _ _ c.in-Taken.is c.record_verdict-v.ensures c.if-count-ge300.false
+pub returns : goal.returns
+unfolding answer_number
+returns c =
+    let a = c.args in
+    ⊎_elim (λ (w : 300 ≤ a.count × a.common < 200). room_common a.count a.common a.rec.now _ c.record_verdict.ensures _ c.in_ok-record_verdict.was w.1)
+    (λ (w : a.count < 300). room_own a.count a.common a.rec.now _ c.record_verdict.ensures _ c.in_ok-record_verdict.was w) c.else-count-ge300.either
