@@ -1,11 +1,11 @@
 -- A list of adds that grows at its end, and what is said of a list. Assumes nothing.
-use mathlib.Core.Path.{◌≡◌, refl, ap, sym, ◌∙◌}
+use mathlib.Core.Path.{◌≡◌, refl, ap, ◌∙◌}
 use mathlib.Core.Bool.{Bool, true, false, not, cond, ◌&&◌}
 use mathlib.Core.List.{List, [], ◌∷◌, ◌++◌}
-use Prim.Native.Nat.{ℕ, zero, suc, ◌+◌, ◌*◌, ◌/◌, ◌%◌, ◌≤◌, ◌<◌}
+use Prim.Native.Nat.{ℕ, zero, suc, ◌+◌, ◌*◌, ◌/◌, ◌%◌, ◌≤◌}
 use native.Mathlib.Numerals.{add-one}
 use native.Mathlib.Omega.{arith}
-use borrow.Author.Tests.{eq-eqb, ne_eqb, eqb-true, eqb-false}
+use borrow.Author.Tests.{eq-eqb, ne_eqb}
 use lib.Dec.{eqb}
 use lib.ListN.{length, length-append}
 use Rattle.units.specs.Grounds.{first_fit}
@@ -14,17 +14,43 @@ use Rattle.inventory.specs.declared.Record.{Record}
 use Rattle.inventory.specs.declared.Run.{Run}
 use Rattle.inventory.specs.Opening.{zero_run, open_number, open_run}
 use Rattle.inventory.specs.Adding.{add_number, add_run}
-use Rattle.accuracy.specs.Reference.{accepted}
 use Rattle.accuracy.specs.Claim.{run_after}
 use Rattle.inventory.specs.Adding.{with_totals}
 use Rattle.accuracy.proofs.Closed.{closed}
 use Rattle.accuracy.proofs.Whole.{after}
+use Rattle.std.specs.Prelude.{Option, Some, None}
+use Rattle.std.specs.Option.{option_or}
+use Rattle.units.specs.declared.Refusal.{Refusal}
+use Rattle.units.specs.Refusals.{refusal_number}
+use Rattle.units.proofs.Refusals.{number_positive}
+use Rattle.inventory.specs.Opening.{fresh_run}
+use Rattle.inventory.proofs.Fresh.{empty_totals}
 use Rattle.add_list.specs.declared.FirstRefused.{FirstRefused}
 use Rattle.list_records.specs.Record.{record_at}
 use Rattle.add_list.specs.Records.{first_records, records_of}
-use Rattle.add_list.specs.Answer.{list_grounds, list_number, refused_as, first_refused, list_run, list_taken, list_first, noted}
+use Rattle.add_list.specs.Answer.{list_grounds, list_number, RefusedAt, refused_as, refused_at, first_refused, list_run, list_taken, list_first}
 
 -- ---- the run and the first refused record, with one record more
+
+-- places count from 1
+abbrev pub IsPlaced : Option FirstRefused → Type 0
+IsPlaced None = Unit
+IsPlaced (Some first) = 1 ≤ first.place
+
+pub placed_or : (first : Option FirstRefused) (i : ℕ) (reason : Refusal) → IsPlaced first → IsPlaced (option_or first (Some (record { place = i + 1; reason = reason })))
+placed_or None i reason h = omega arith
+placed_or (Some first) i reason h = h
+
+-- the first refused one with the number of the record at a place
+unfoldable pub noted : RefusedAt → ℕ → ℕ → RefusedAt
+noted first place number = cond (eqb first.place 0 && not (eqb number 0)) (refused_as place number) first
+
+-- as the code keeps it
+pub noted_or : (first : Option FirstRefused) (place : ℕ) (reason : Refusal) → IsPlaced first
+    → refused_at (option_or first (Some (record { place = place; reason = reason }))) ≡ noted (refused_at first) place (refusal_number reason)
+unfolding noted
+noted_or None place reason h = rw (number_positive reason)
+noted_or (Some first) place reason h = rw (ne_eqb first.place 0 (λ z. absurd (omega (arith, h))))
 
 after_snoc : (run : Run) (l : List Record) (rec : Record) → run_after run (l ++ (rec ∷ [])) ≡ add_run (run_after run l) rec
 unfolding run_after
@@ -44,7 +70,7 @@ first_snoc run place [] rec h = by (eqb (add_number run rec) 0)
     by false = rw here
 first_snoc run place (b ∷ l) rec h = by (eqb (add_number run b) 0) (first_snoc (add_run run b) (place + 1) l rec (omega arith))
   where
-    later : FirstRefused
+    later : RefusedAt
     later = first_refused (add_run run b) (place + 1) l
 
     number : ℕ
@@ -60,7 +86,7 @@ first_snoc run place (b ∷ l) rec h = by (eqb (add_number run b) 0) (first_snoc
     by false again = rw (ne_eqb place 0 (λ z. absurd (omega arith)))
 
 -- a record that is taken changes no first refused one
-pub none_noted : (seen : FirstRefused) (place number : ℕ) → number ≡ 0 → seen ≡ noted seen place number
+pub none_noted : (seen : RefusedAt) (place number : ℕ) → number ≡ 0 → seen ≡ noted seen place number
 unfolding noted
 none_noted seen place number e = rw e (by (eqb seen.place 0))
   where
@@ -89,7 +115,7 @@ module _ (first : Run) (numbers : List ℕ) where
     unfolding first_records
     turn_run = rw (add-one, after_snoc, ← e)
 
-    pub turn_first : (seen : FirstRefused) → seen ≡ first_refused first 1 (first_records numbers i)
+    pub turn_first : (seen : RefusedAt) → seen ≡ first_refused first 1 (first_records numbers i)
         → noted seen (i + 1) (add_number run (record_at numbers (i * 9))) ≡ first_refused first 1 (first_records numbers (i + 1))
     unfolding first_records
     turn_first seen s =
@@ -101,7 +127,7 @@ module _ (first : Run) (numbers : List ℕ) where
     unfolding records_of
     all_run h = rw (← h) e
 
-  pub all_first : (seen : FirstRefused) (i : ℕ) → i ≡ length numbers / 9 → seen ≡ first_refused first 1 (first_records numbers i)
+  pub all_first : (seen : RefusedAt) (i : ℕ) → i ≡ length numbers / 9 → seen ≡ first_refused first 1 (first_records numbers i)
       → seen ≡ first_refused first 1 (records_of numbers)
   unfolding records_of
   all_first seen i h s = rw (← h) s
@@ -144,3 +170,13 @@ module _ (head : Head) (numbers : List ℕ) where
     pub given_first : first_refused (open_run head) 1 (records_of numbers) ≡ list_first head numbers
     unfolding list_first
     given_first = rw z
+
+-- ---- the run that opening gives
+
+pub opened_totals : (head : Head) → with_totals (open_run head) ≡ open_run head
+unfolding open_run fresh_run zero_run
+opened_totals head = by (eqb (open_number head) 0)
+  where
+    by : (b : Bool) → with_totals (cond b (fresh_run head) zero_run) ≡ cond b (fresh_run head) zero_run
+    by true = empty_totals head.trip _
+    by false = empty_totals 0 _

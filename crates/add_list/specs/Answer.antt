@@ -1,7 +1,9 @@
 -- A head and a list of records, added one after the other (SPECIFICATION, "Lists of records").
 -- Assumes nothing.
-use Rattle.std.specs.Prelude.{ℕ, ◌+◌, ◌%◌, not, cond, ◌&&◌, List, [], ◌∷◌, eqb, length}
+use Rattle.std.specs.Prelude.{ℕ, ◌+◌, ◌%◌, not, cond, List, [], ◌∷◌, eqb, length, Option, Some, None, Result, Ok, Err}
 use Rattle.units.specs.Grounds.{Ground, ground, first_fit}
+use Rattle.units.specs.declared.Refusal.{Refusal}
+use Rattle.units.specs.Refusals.{refusal_number}
 use Rattle.inventory.specs.declared.Head.{Head}
 use Rattle.inventory.specs.declared.Record.{Record}
 use Rattle.inventory.specs.declared.Run.{Run}
@@ -11,6 +13,7 @@ use Rattle.inventory.specs.Adding.{add_number, add_run}
 use Rattle.accuracy.specs.Reference.{accepted}
 use Rattle.accuracy.specs.Claim.{run_after}
 use Rattle.add_list.specs.declared.FirstRefused.{FirstRefused}
+use Rattle.add_list.specs.declared.ListAdded.{ListAdded}
 use Rattle.add_list.specs.Records.{records_of}
 
 -- the grounds, in their order: 10 where the list is not of whole records, then those of the head
@@ -21,12 +24,16 @@ list_grounds head numbers = ground 10 (not (eqb (length numbers % 9) 0)) ∷ hea
 unfoldable pub list_number : Head → List ℕ → ℕ
 list_number head numbers = first_fit (list_grounds head numbers)
 
--- a place among the records, from 1, and the number of the refusal there
-abbrev pub refused_as : ℕ → ℕ → FirstRefused
+-- a place among the records, from 1, and the number of the refusal there; 0 and 0 for none
+pub record RefusedAt : Type 0 where
+  pub place : ℕ
+  pub number : ℕ
+
+abbrev pub refused_as : ℕ → ℕ → RefusedAt
 refused_as place number = record { place = place; number = number }
 
 -- the first refused one of the records that are added to a run, the first of them at a place; 0 and 0 where none is refused
-unfoldable pub first_refused : Run → ℕ → List Record → FirstRefused
+unfoldable pub first_refused : Run → ℕ → List Record → RefusedAt
 first_refused run place [] = refused_as 0 0
 first_refused run place (rec ∷ recs) =
     cond (eqb (add_number run rec) 0) (first_refused (add_run run rec) (place + 1) recs) (refused_as place (add_number run rec))
@@ -38,11 +45,23 @@ list_run head numbers = cond (eqb (list_number head numbers) 0) (run_after (open
 unfoldable pub list_taken : Head → List ℕ → ℕ
 list_taken head numbers = cond (eqb (list_number head numbers) 0) (length (accepted (records_of numbers))) 0
 
-unfoldable pub list_first : Head → List ℕ → FirstRefused
+unfoldable pub list_first : Head → List ℕ → RefusedAt
 list_first head numbers = cond (eqb (list_number head numbers) 0) (first_refused (open_run head) 1 (records_of numbers)) (refused_as 0 0)
 
--- ---- one record more, as the code goes
+-- ---- what an answer says of them
 
--- the first refused one with the number of the record at a place
-unfoldable pub noted : FirstRefused → ℕ → ℕ → FirstRefused
-noted first place number = cond (eqb first.place 0 && not (eqb number 0)) (refused_as place number) first
+abbrev pub refused_at : Option FirstRefused → RefusedAt
+refused_at None = refused_as 0 0
+refused_at (Some first) = refused_as first.place (refusal_number first.reason)
+
+abbrev pub added_run : Result ListAdded Refusal → Run
+added_run (Ok added) = added.run
+added_run (Err r) = zero_run
+
+abbrev pub added_taken : Result ListAdded Refusal → ℕ
+added_taken (Ok added) = added.taken
+added_taken (Err r) = 0
+
+abbrev pub added_first : Result ListAdded Refusal → RefusedAt
+added_first (Ok added) = refused_at added.first
+added_first (Err r) = refused_as 0 0
