@@ -1,11 +1,10 @@
 -- A text in a lent buffer, and the text of a sheet, case by case. Assumes nothing.
-use mathlib.Core.Path.{◌≡◌, refl, ap, sym, ◌∙◌}
-use mathlib.Core.Bool.{true, false, cond}
-use mathlib.Core.List.{List, [], ◌∷◌, ◌++◌}
-use Prim.Native.Nat.{ℕ, ◌+◌, ◌≤◌, ◌<◌}
-use native.Mathlib.Omega.{arith}
-use lib.Dec.{eqb, ltb}
-use lib.ListN.{length, drop, set}
+use mathlib.Core.Path.{◌≡◌, refl, ap, ◌∙◌}
+use mathlib.Core.Bool.{true, false}
+use mathlib.Core.List.{List, [], ◌∷◌}
+use Prim.Native.Nat.{ℕ, ◌≤◌, ◌<◌}
+use lib.Dec.{eqb}
+use lib.ListN.{length, set}
 use lib.Seq.{sets}
 use borrow.Author.Tests.{lt-ltb, le-ltb}
 use Rattle.units.specs.declared.Refusal.TheVariants.{ShortBuffer}
@@ -15,8 +14,8 @@ use Rattle.text.specs.Render.{render}
 use Rattle.text.proofs.Write.{length_render}
 use Rattle.inventory.specs.declared.Run.{Run}
 use Rattle.inventory.specs.Order.{in_order}
-use Rattle.listing.specs.declared.Reported.{Reported}
-use Rattle.listing.specs.declared.Reported.TheVariants.{Written, Refused}
+use Rattle.std.specs.Prelude.{Result, Ok, Err}
+use Rattle.units.specs.declared.Refusal.{Refusal}
 use Rattle.listing.specs.Report.{report_bytes, report_grounds, report_number, report_of, written, report_buffer, reported_answer}
 use Rattle.writing.proofs.Stores.{Wrote, start, more, sets_front}
 use Rattle.sheet.specs.Sheet.{sheet_number, sheet_line, sheet_run}
@@ -26,12 +25,12 @@ use Rattle.reporting.specs.Reporting.{text_number, text_line, refused_word, refu
 -- ---- a text in a buffer b
 
 module _ (t b : List ℕ) where
-  pub no_room : length b < length t → (reported_answer (Refused ShortBuffer) ≡ answer_for t b) × (b ≡ placed t b)
+  pub no_room : length b < length t → (reported_answer (Err ShortBuffer) ≡ answer_for t b) × (b ≡ placed t b)
   unfolding reported_answer refusal_number answer_for placed text_grounds first_fit
   no_room h = (rw (lt-ltb (length b) (length t) h), rw (lt-ltb (length b) (length t) h))
 
   pub room : (n : ℕ) (after : List ℕ) → length t ≤ length b → n ≡ length t → after ≡ sets b 0 t
-      → (reported_answer (Written n) ≡ answer_for t b) × (after ≡ placed t b)
+      → (reported_answer (Ok n) ≡ answer_for t b) × (after ≡ placed t b)
   unfolding reported_answer answer_for placed written text_grounds first_fit
   room n after h e s = (rw (le-ltb (length b) (length t) h, e), rw (le-ltb (length b) (length t) h) (s ∙ sets_front b t h))
 
@@ -89,12 +88,12 @@ unfolding report_buffer report_number report_grounds placed written text_grounds
 report_placed run b o = rw o
 
 -- an answer for the right text
-pub text_by : (t bytes b after : List ℕ) (r : Reported) → t ≡ sheet_text bytes → reported_answer r ≡ answer_for t b → after ≡ placed t b
+pub text_by : (t bytes b after : List ℕ) (r : Result ℕ Refusal) → t ≡ sheet_text bytes → reported_answer r ≡ answer_for t b → after ≡ placed t b
     → (reported_answer r ≡ text_of bytes b) × (after ≡ text_buffer bytes b)
 unfolding text_of text_buffer
 text_by t bytes b after r e a p = (a ∙ ap (λ (u : List ℕ). answer_for u b) e, p ∙ ap (λ (u : List ℕ). placed u b) e)
 
-pub text_report : (bytes b after : List ℕ) (run : Run) (r : Reported) → length bytes ≤ 65536 → sheet_number bytes ≡ 0 → run ≡ sheet_run bytes
+pub text_report : (bytes b after : List ℕ) (run : Run) (r : Result ℕ Refusal) → length bytes ≤ 65536 → sheet_number bytes ≡ 0 → run ≡ sheet_run bytes
     → reported_answer r ≡ report_of run b → after ≡ report_buffer run b → (reported_answer r ≡ text_of bytes b) × (after ≡ text_buffer bytes b)
 text_report bytes b after run r h z e a p =
     let o = taken_ordered bytes z in

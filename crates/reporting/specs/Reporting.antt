@@ -1,10 +1,21 @@
 -- What is printed for a sheet (SPECIFICATION, "Sheet" and "Report"): the report, or one line for a refused sheet.
 -- Assumes nothing.
-use Rattle.std.specs.Prelude.{ℕ, cond, List, [], ◌∷◌, ◌++◌, eqb, ltb, length}
+use Rattle.std.specs.Prelude.{ℕ, cond, List, [], ◌∷◌, ◌++◌, eqb, ltb, length, ⊤, Result, Ok, Err}
 use Rattle.units.specs.Grounds.{Ground, ground, first_fit}
+use Rattle.units.specs.Refusals.{refusal_number}
 use Rattle.text.specs.Render.{render}
 use Rattle.listing.specs.Report.{report_bytes, ReportAnswer, written}
+use Rattle.sheet.specs.declared.BadLine.{BadLine}
 use Rattle.sheet.specs.Sheet.{sheet_number, sheet_line, sheet_run}
+
+-- the number and the line of a sheet's answer, both 0 where it is taken
+abbrev pub bad_number : Result ⊤ BadLine → ℕ
+bad_number (Ok taken) = 0
+bad_number (Err bad) = refusal_number bad.reason
+
+abbrev pub bad_line : Result ⊤ BadLine → ℕ
+bad_line (Ok taken) = 0
+bad_line (Err bad) = bad.line
 
 -- the number of a text: more than 65,536 bytes are a shape fault, else the sheet's own, 0 where it is taken
 unfoldable pub text_number : List ℕ → ℕ
