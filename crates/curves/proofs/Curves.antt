@@ -10,7 +10,7 @@ use lib.ListN.{get_or}
 use mir.Syntax.{w64}
 use mir.Val.{to_z, of_z}
 use Rattle.units.proofs.Signed.{arg}
-use Rattle.curves.specs.Curves.{quadratic, Small, SmallRow, value_at}
+use Rattle.curves.specs.Curves.{quadratic, SmallRow, value_at}
 
 -- ---- Horner's form
 
@@ -52,9 +52,6 @@ horner_quadratic a b c v =
 -- a coefficient read back from its bits
 abbrev pub bits_read : List (List ℤ) → ℕ → ℕ → ℤ
 bits_read t q j = to_z w64 (of_z w64 (get_or (get_or t q []) j (pos 0)))
-
-pub read_small : (t : List (List ℤ)) (q v : ℕ) → SmallRow (get_or t q []) v → Small (bits_read t q 0) (bits_read t q 1) (bits_read t q 2) v
-read_small t q v s = rw ((arg tt s.first).same, (arg tt s.second).same, (arg tt s.third).same) s
 
 -- the quantity and the road of an index
 pub by_road : {A : Type 0} (f : ℕ → ℕ → A) (q i j : ℕ) → i < 3 → j ≡ q * 3 + i → f (j / 3) (j % 3) ≡ f q i
