@@ -36,11 +36,11 @@ ratio_in_range-requires c =
     let a = asked_ok _ _ _ _ _ c.in_ok-question_verdict.was c.question_verdict.ensures in
     let m = total_most _ a.order (c.args.fuel - 1) 4 (omega arith) (omega arith) in
     let n = c.if-f-eq0.false in
-    (c.if-sold-gt999999999.false, (omega (arith, n), omega (arith, m, c.total_at-f.ensures)))
+    (omega arith, (omega (arith, n), omega (arith, m, c.total_at-f.ensures)))
 
 pub returns-in_err-r : goal.returns-in_err-r
 returns-in_err-r c =
-    let e = answer_range _ _ _ _ _ _ c.in_ok-question_verdict.was c.question_verdict.ensures (λ z. c.if-f-eq0.false (c.total_at-f.ensures ∙ z)) c.if-sold-gt999999999.false _ _ _ _ (c.ratio_in_range.ensures ∙ ap (ratio_in_range _) c.total_at-f.ensures) c.ok_or.ensures.value c.in_err-r.was c.from_residual-in_err-r.ensures.1 in
+    let e = answer_range _ _ _ _ _ _ c.in_ok-question_verdict.was c.question_verdict.ensures (λ z. c.if-f-eq0.false (c.total_at-f.ensures ∙ z)) (omega arith) _ _ _ _ (c.ratio_in_range.ensures ∙ ap (ratio_in_range _) c.total_at-f.ensures) c.ok_or.ensures.value c.in_err-r.was c.from_residual-in_err-r.ensures.1 in
     record { answer = e; near = rw e (balance_near _ _ _ _) }
 
 pub overflow_sub-fuel-2 : goal.overflow_sub-fuel-2
@@ -61,5 +61,5 @@ scaled-requires c =
 
 pub returns : goal.returns
 returns c =
-    let e = answer_given _ _ _ _ _ _ c.in_ok-question_verdict.was c.question_verdict.ensures (λ z. c.if-f-eq0.false (c.total_at-f.ensures ∙ z)) c.if-sold-gt999999999.false _ _ _ _ (c.ratio_in_range.ensures ∙ ap (ratio_in_range _) c.total_at-f.ensures) c.ok_or.ensures.value c.in_ok-r.was c.total_at-t.ensures c.scaled.ensures in
+    let e = answer_given _ _ _ _ _ _ c.in_ok-question_verdict.was c.question_verdict.ensures (λ z. c.if-f-eq0.false (c.total_at-f.ensures ∙ z)) (omega arith) _ _ _ _ (c.ratio_in_range.ensures ∙ ap (ratio_in_range _) c.total_at-f.ensures) c.ok_or.ensures.value c.in_ok-r.was c.total_at-t.ensures c.scaled.ensures in
     record { answer = e; near = rw e (balance_near _ _ _ _) }
