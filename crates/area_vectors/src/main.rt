@@ -79,7 +79,12 @@ fn put(numbers: &mut [u64], place: u64, value: u64) {
 }
 
 // What a line does to the first numbers, as many as are lent.
-fn change_lent(out: &mut impl Write, line: &[u8], numbers: &mut [u64], lent: u64) -> io::Result<()> {
+fn change_lent(
+    out: &mut impl Write,
+    line: &[u8],
+    numbers: &mut [u64],
+    lent: u64,
+) -> io::Result<()> {
     if lent <= 2880 {
         let n = lent as usize;
         if n <= numbers.len() {

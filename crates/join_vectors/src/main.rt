@@ -69,12 +69,7 @@ fn change(
 }
 
 // One line: the line itself, then what it does or asks.
-fn case(
-    out: &mut impl Write,
-    line: &[u8],
-    runs: &mut [Run],
-    areas: &mut [u64],
-) -> io::Result<()> {
+fn case(out: &mut impl Write, line: &[u8], runs: &mut [Run], areas: &mut [u64]) -> io::Result<()> {
     print_case(out, line)?;
     let k = number(line, 1);
     let mut run = run_at(runs, k);
