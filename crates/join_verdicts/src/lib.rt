@@ -3,18 +3,10 @@
 
 ghost use Rattle.std.specs.Prelude.{◌≡◌};
 ghost use Rattle.units.specs.Refusals.{answer_number};
-ghost use Rattle.inventory.specs.Order.{same_head};
 ghost use Rattle.joins.specs.Joining.{join_number};
 
 use inventory::Run;
 use units::Refusal;
-
-// Whether L and all X of two runs agree.
-fn same_head(a: &Run, b: &Run) -> bool
-    ensures { result ≡ same_head a.now b.now }
-{
-    a.trip == b.trip && a.x == b.x
-}
 
 // Whether a join is refused: 16 of either run, then 21, then 22.
 #[tactic(auto, using(inventory::proofs::Order::count_of, joins::proofs::Laws::first_unordered, joins::proofs::Laws::second_unordered, joins::proofs::Laws::heads_differ_lem, joins::proofs::Laws::too_many, joins::proofs::Laws::good_join), unfolding(units::specs::Refusals::answer_number, units::specs::Refusals::refusal_number))]
@@ -27,7 +19,7 @@ pub fn join_verdict(a: &Run, b: &Run) -> Result<(), Refusal>
     if !order::in_order(b) {
         return Err(Refusal::RunOrder);
     }
-    if !same_head(a, b) {
+    if !order::same_head(a, b) {
         return Err(Refusal::HeadsDiffer);
     }
     if 5000 < a.count + b.count {
