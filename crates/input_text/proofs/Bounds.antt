@@ -3,7 +3,7 @@ use Prim.Native.Nat.{ℕ, suc, ◌+◌, ◌≤◌}
 use mathlib.Core.Path.{◌≡◌, refl, sym, ap, ◌∙◌}
 use mathlib.Core.Bool.{Bool, true, false, cond, ◌&&◌}
 use mathlib.Core.List.{List, [], ◌∷◌}
-use mathlib.Core.Option.{Option, none, some}
+use Rattle.std.specs.Prelude.{Option, None, Some, Result, Ok, Err}
 use native.Mathlib.Omega.{arith}
 use lib.Dec.{leb, ltb, eqb}
 use lib.ListN.{length, drop, length-append}
@@ -21,8 +21,6 @@ use Rattle.inventory.specs.declared.Run.{Run}
 use Rattle.inventory.specs.Records.{head_grounds, record_grounds}
 use Rattle.inventory.specs.Opening.{open_number}
 use Rattle.inventory.specs.Adding.{add_grounds, add_number}
-use Rattle.listing.specs.declared.Reported.{Reported}
-use Rattle.listing.specs.declared.Reported.TheVariants.{Written, Refused}
 use Rattle.listing.specs.Report.{report_bytes, ReportAnswer, reported_answer, written}
 use Rattle.listing.proofs.Report.{report_most}
 use Rattle.lines.specs.Lines.{glue, lines}
@@ -72,12 +70,12 @@ unfolding decided
 decided_small m n k rest h l s = picked m n k rest (eqb k 0) h l s
 
 line_number_most : (run : Run) (rec : Option Record) → line_number run rec ≤ 20
-line_number_most run none = omega arith
-line_number_most run (some rec) = add_most run rec
+line_number_most run None = omega arith
+line_number_most run (Some rec) = add_most run rec
 
 head_number_most : (head : Option Head) → head_number head ≤ 20
-head_number_most none = omega arith
-head_number_most (some head) = open-most head
+head_number_most None = omega arith
+head_number_most (Some head) = open-most head
 
 records_small : (run : Run) (n : ℕ) (ls : List (List ℕ)) (m : ℕ) → n + length ls ≤ m → Small m (from_records run n ls)
 unfolding from_records
@@ -140,7 +138,7 @@ texts =
 
 -- ---- a text in 1,455 bytes
 
-module _ (bytes b after : List ℕ) (r : Reported) (h : length b ≡ 1455) (a : reported_answer r ≡ text_of bytes b) (p : after ≡ text_buffer bytes b) where
+module _ (bytes b after : List ℕ) (r : Result ℕ Refusal) (h : length b ≡ 1455) (a : reported_answer r ≡ text_of bytes b) (p : after ≡ text_buffer bytes b) where
   room : first_fit (text_grounds (sheet_text bytes) b) ≡ 0
   unfolding first_fit text_grounds
   room = let m = length_most bytes in rw (le-ltb (length b) (length (sheet_text bytes)) (omega arith))
@@ -157,14 +155,14 @@ module _ (bytes b after : List ℕ) (r : Reported) (h : length b ≡ 1455) (a : 
   unfolding text_buffer placed
   after_is = p ∙ rw room
 
-  pub fits : (n : ℕ) → r ≡ Written n → (n ≡ length (sheet_text bytes)) × ((n ≤ 1455) × (after ≡ written (sheet_text bytes) b))
+  pub fits : (n : ℕ) → r ≡ Ok n → (n ≡ length (sheet_text bytes)) × ((n ≤ 1455) × (after ≡ written (sheet_text bytes) b))
   unfolding reported_answer
   fits n e =
       let l : n ≡ length (sheet_text bytes) = rw e at bytes_are in
       let m = length_most bytes in
       (l, (omega arith, after_is))
 
-  pub never : (x : Refusal) → r ≡ Refused x → ⊥
+  pub never : (x : Refusal) → r ≡ Err x → ⊥
   unfolding reported_answer
   never x e =
       let z : refusal_number x ≡ 0 = rw e at number_is in
