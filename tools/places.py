@@ -73,7 +73,7 @@ def bare(text):
 def matched(text, start, opening="{", closing="}"):
     """The place behind the bracket that closes the one at start."""
     depth = 0
-    for m in re.compile(r"b'(?:\\.|[^'\\])'|\"(?:\\.|[^\"\\])*\"|[" + re.escape(opening + closing) + "]").finditer(text, start):
+    for m in re.compile(r"->|b'(?:\\.|[^'\\])'|\"(?:\\.|[^\"\\])*\"|[" + re.escape(opening + closing) + "]").finditer(text, start):
         if m.group() == opening:
             depth += 1
         elif m.group() == closing:
