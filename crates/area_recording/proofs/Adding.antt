@@ -11,6 +11,12 @@ use lib.Dec.{eqb}
 use lib.ListN.{length, set, get_or, length-set}
 use lib.Seq.{get_or-set_same, get_or-set_other, ext_get_or}
 use borrow.Author.Tests.{lt-ltb, eqb-true, eqb-false}
+use Rattle.std.specs.Prelude.{Result, Ok, Err}
+use Rattle.std.specs.Result.{IsErrAnd}
+use Rattle.units.specs.declared.Refusal.{Refusal}
+use Rattle.units.specs.Refusals.{answer_number, refusal_number}
+use Rattle.units.proofs.Refusals.{number_positive, refused_number}
+use Rattle.units.proofs.Passed.{passed_up}
 use Rattle.units.specs.Lists.{tab}
 use Rattle.units.specs.Grounds.{first_fit}
 use Rattle.units.proofs.Tab.{tab_at, tab_length}
@@ -34,13 +40,17 @@ module _ (numbers ys : List ℕ) (area : ℕ) (run : Run) (common : ℕ) (size :
   its_size : length ys ≡ 171
   its_size = rw put (tab_length (run_number run) 171)
 
+  -- k is the code's word for 171
+  pub still : (k : ℕ) → k ≡ 171 → length (put_mid (area * 171) k numbers ys) ≡ 2737
+  still k e = rw (e, put_length (area * 171) 171 numbers ys its_size (omega arith)) size
+
   part_number : (j : ℕ) → j < 2736 → (b : Bool) → eqb (j / 171) area ≡ b
       → get_or (put_mid (area * 171) 171 numbers ys) j 0 ≡ areas_number (with_run (areas_of numbers) area run common) j
   unfolding areas_number with_run areas_of
   part_number j h true e =
       let q : j / 171 ≡ area = eqb-true (j / 171) area e in
-      put_in (area * 171) 171 numbers ys its_size (omega arith) j (j % 171) (omega arith) (omega arith) ∙ rw put (tab_at 0 (run_number run) 171 (j % 171) (omega arith))
-      ∙ sym (rw (lt-ltb j 2736 h, e))
+      let p : get_or ys (j % 171) 0 ≡ run_number run (j % 171) = rw put (tab_at 0 (run_number run) 171 (j % 171) (omega arith)) in
+      put_in (area * 171) 171 numbers ys its_size (omega arith) j (j % 171) (omega arith) (omega arith) ∙ p ∙ sym (rw (lt-ltb j 2736 h, e))
   part_number j h false e =
       let z : j / 171 * 171 + j % 171 ≡ j = omega arith in
       put_kept (area * 171) 171 numbers ys its_size (omega arith) j (λ x y. eqb-false (j / 171) area e (omega arith))
@@ -76,6 +86,13 @@ module _ (numbers : List ℕ) (area : ℕ) (rec : Record) where
   pub numbers_kept : (n : ℕ) → n ≡ add_area_number numbers area rec → eqb n 0 ≡ false → (n ≡ add_area_number numbers area rec) × (numbers ≡ add_area_numbers numbers area rec)
   unfolding add_area_numbers
   numbers_kept n e h = (e, rw (← e, h))
+
+  -- what a question mark hands on
+  pub refused_kept : {A B : Type 0} (v : Result A Refusal) → answer_number v ≡ add_area_number numbers area rec → (answer : Result B Refusal) (r : Refusal) → IsErrAnd answer (λ y. y ≡ r) → v ≡ Err r
+      → (answer_number answer ≡ add_area_number numbers area rec) × (numbers ≡ add_area_numbers numbers area rec)
+  unfolding answer_number
+  refused_kept v h answer r is e =
+      rw (passed_up answer r is) (numbers_kept (refusal_number r) (sym (refused_number v r _ e h)) (number_positive r))
 
   module _ (o : numbers_in_order numbers ≡ true) where
     pub common_low : get_or numbers 2736 0 ≤ 200
