@@ -109,6 +109,7 @@ pub fn each_line<F: FnMut(&[u8]) -> io::Result<()>>(text: &[u8], mut f: F) -> io
     ensures { OnOk result ((last : F) × FoldsTo (λ g line h. CalledAt F.FnMut g line (Ok tt) h) f (lines_of text.now) last) }
 {
     let mut rest = text;
+    // std's `split` would give an empty part behind the last line end
     while !rest.is_empty() {
         let (line, behind) = split(rest, b'\n');
         f(line)?;

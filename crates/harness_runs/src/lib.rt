@@ -8,7 +8,7 @@ ghost use Rattle.harness_runs.specs.Runs.{set_field, field_at};
 use inventory::{Amount, Kind, Run};
 use units::{Grams, VehicleKm};
 
-// The kind of a number.
+// The kind of a number, which a line of standard input holds.
 pub fn kind_of(n: u64) -> Kind
     ensures { kind_place result ≡ min n 3 }
 {
@@ -20,7 +20,7 @@ pub fn kind_of(n: u64) -> Kind
     }
 }
 
-// One number of a run set by hand.
+// One number of a run set by hand, by the number of its field, as a line of standard input has it.
 #[tactic(auto, unfolding(crate::specs::Runs::set_field))]
 pub fn set_field(run: &mut Run, field: u64, k: u64, value: u64)
     ensures { run.new ≡ set_field run.old field k value }
@@ -45,7 +45,7 @@ fn number_at(a: Amount, i: usize) -> u64
     if i % 2 == 1 { a.grams.0 } else { a.rest }
 }
 
-// Number i of a run's 171.
+// Number i of a run's 171, as the expected answers list them.
 #[tactic(auto, unfolding(crate::specs::Runs::field_at, crate::specs::Runs::total_field))]
 pub fn field_at(run: &Run, i: usize) -> u64
     ensures { result ≡ field_at run.now i }

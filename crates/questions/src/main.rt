@@ -41,6 +41,7 @@ fn case(out: &mut impl Write, line: &[u8], run: &mut Run) -> io::Result<()> {
 // At most so many bytes of cases are read.
 const ROOM: u64 = 262144;
 
+// Its state is this program's own, as in `vectors`.
 fn main(rt: HostRuntime) -> io::Result<()> {
     let mut cases = Vec::new(rt.alloc());
     rt.reader().take(ROOM).read_to_end(&mut cases)?;

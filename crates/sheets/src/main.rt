@@ -49,6 +49,7 @@ fn cut(text: &[u8], n: u64) -> (&[u8], &[u8]) {
 // Every line, one after another.
 fn lines(out: &mut impl Write, cases: &[u8], sheet: &mut Vec<u8>) -> io::Result<()> {
     let mut rest = cases;
+    // a sheet's bytes have line ends of their own, so no iterator over lines serves
     while !rest.is_empty() {
         let (line, behind) = split(rest, b'\n');
         rest = behind;
