@@ -41,8 +41,8 @@ pub fn area_run(numbers: &[u64], area: u64) -> Result<Run, Refusal>
     if !area_order::in_order(numbers) {
         return Err(Refusal::RunOrder);
     }
-    if 15 < area {
-        return Err(Refusal::NoArea);
+    if area <= 15 {
+        return Ok(area_runs::run_of(&AreaRun::at(numbers, area as usize)));
     }
-    Ok(area_runs::run_of(&AreaRun::at(numbers, area as usize)))
+    Err(Refusal::NoArea)
 }

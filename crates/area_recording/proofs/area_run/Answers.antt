@@ -13,19 +13,19 @@ unfolding answer_number refusal_number given_run
 returns-then-not-in_order c =
     let p = run_unordered c.args.numbers.now c.args.area (sym c.in_order.ensures ∙ c.if-not-in_order.true) in record { number = p.0; run = p.1 }
 
-pub returns-then-area-gt15 : goal.returns-then-area-gt15
-unfolding answer_number refusal_number given_run
-returns-then-area-gt15 c =
-    let p = run_no_area c.args.numbers.now c.args.area (sym c.in_order.ensures ∙ c.if-not-in_order.false) c.if-area-gt15.true in record { number = p.0; run = p.1 }
-
 pub at-requires : goal.at-requires
-at-requires c = omega (arith, size_is c.args.numbers.now (sym c.in_order.ensures ∙ c.if-not-in_order.false), c.if-area-gt15.false)
+at-requires c = omega (arith, size_is c.args.numbers.now (sym c.in_order.ensures ∙ c.if-not-in_order.false), c.if-area-le15.true)
 
-pub returns : goal.returns
+pub returns-then-area-le15 : goal.returns-then-area-le15
 unfolding answer_number areas_of given_run
-returns c =
-    let p = run_given c.args.numbers.now c.args.area (sym c.in_order.ensures ∙ c.if-not-in_order.false) c.if-area-gt15.false in
+returns-then-area-le15 c =
+    let p = run_given c.args.numbers.now c.args.area (sym c.in_order.ensures ∙ c.if-not-in_order.false) c.if-area-le15.true in
     record {
       number = p.0;
       run = c.run_of.ensures ∙ c.at.ensures ∙ p.1;
     }
+
+pub returns : goal.returns
+unfolding answer_number refusal_number given_run
+returns c =
+    let p = run_no_area c.args.numbers.now c.args.area (sym c.in_order.ensures ∙ c.if-not-in_order.false) c.if-area-le15.false in record { number = p.0; run = p.1 }
