@@ -34,7 +34,7 @@ pub fn open<W: Write>(out: &mut W, numbers: &mut [u64], line: &[u8]) -> io::Resu
     ensures numbers { numbers.new ≡ open_areas_numbers numbers.old (head_in line.now) }
     ensures text { OnOk result (Appends (W.contents out.old) (W.contents out.new) (numbers_text (open_areas_number numbers.old (head_in line.now) ∷ []))) }
 {
-    let opened = area_opening::open_areas(harness_records::head_of(line), numbers);
+    let opened = area_opening::open_areas(numbers, harness_records::head_of(line));
     print_numbers(out, &[units::answer_number(&opened)])
 }
 

@@ -57,6 +57,7 @@ fn lines(out: &mut impl Write, cases: &[u8], sheet: &mut Vec<u8>) -> io::Result<
             let (bytes, more) = cut(behind, number(line, 2));
             for _ in 0..number(line, 1) {
                 sheet.extend_from_slice(bytes)?;
+                sheet.truncate(SHEET);
             }
             rest = cut(more, 1).1;
         } else {
@@ -68,6 +69,9 @@ fn lines(out: &mut impl Write, cases: &[u8], sheet: &mut Vec<u8>) -> io::Result<
     }
     Ok(())
 }
+
+// A sheet is cut behind so many bytes.
+const SHEET: usize = 262144;
 
 // At most so many bytes of cases are read.
 const ROOM: u64 = 1048576;
