@@ -158,7 +158,7 @@ def cited():
         same("README: %s is there" % path, path in specs, True)
     for crate, function in re.findall(r"`(\w+)::(\w+)[(`]", README):
         source = os.path.join("crates", crate, "src", "lib.rt")
-        there = os.path.exists(os.path.join(ROOT, source)) and bool(re.search(r"^pub fn %s\(" % function, read(source), re.M))
+        there = os.path.exists(os.path.join(ROOT, source)) and bool(re.search(r"^pub fn %s[<(]" % function, read(source), re.M))
         same("README: %s::%s is there" % (crate, function), there, True)
     listed = set(re.findall(r"^(\w+)(?: staticlib)?:", read("crates.txt"), re.M))
     same("README: the table of crates", set(re.findall(r"`(\w+)`", "\n".join(row[0] for row in rows(README.split("## The repository")[1])))), listed)
