@@ -65,11 +65,11 @@ enum Trouble {
 }
 
 // The text of the bytes that were read, to the writer.
-fn write_report<W: Write>(writer: &mut W, input: &[u8]) -> Result<(), Trouble>
-    ensures { Prints (W.contents writer.old) (W.contents writer.new) (sheet_text input.now) result }
+fn write_report<W: Write>(writer: &mut W, input: &[u8; 65537], read: usize) -> Result<(), Trouble>
+    ensures { Prints (W.contents writer.old) (W.contents writer.new) (sheet_text (take read input.now)) result }
 {
     let mut text = [0u8; 1455];
-    let n = input_text::report_input(input, &mut text);
+    let n = input_text::report_input(input, read, &mut text);
     match write_text(writer, &text[..n]) {
         Ok(()) => Ok(()),
         Err(e) => Err(Trouble::Writing(e)),
@@ -82,7 +82,7 @@ fn report<R: Read, W: Write>(reader: &mut R, writer: &mut W) -> Result<(), Troub
 {
     let mut input = [0u8; 65537];
     match read_input(reader, &mut input) {
-        Ok(n) => write_report(writer, &input[..n]),
+        Ok(n) => write_report(writer, &input, n),
         Err(e) => Err(Trouble::Reading(e)),
     }
 }

@@ -6,6 +6,8 @@
 // run of zeros, else every field of the run and the printed totals.
 #![tactic(auto)]
 
+ghost use Rattle.std.specs.Prelude.{◌≤◌, length};
+
 use harness_answers::print_run;
 use harness_lines::{number, split, word};
 use harness_prints::{print, print_case, print_numbers};
@@ -39,7 +41,9 @@ fn print_sheet(out: &mut impl Write, text: &[u8]) -> io::Result<()> {
 }
 
 // The first n bytes, all of them where there are fewer, and those behind them.
-fn cut(text: &[u8], n: u64) -> (&[u8], &[u8]) {
+fn cut(text: &[u8], n: u64) -> (&[u8], &[u8])
+    ensures { length result.1.now ≤ length text.now }
+{
     if n < text.len() as u64 {
         return text.split_at(n as usize);
     }
