@@ -19,7 +19,7 @@ use Rattle.units.proofs.Tests.{and_false}
 use Rattle.units.proofs.Sums.{le_or_lt}
 use Rattle.units.proofs.Between.{Between, between_none, between_more, between}
 use Rattle.inventory.specs.declared.Run.{Run}
-use Rattle.inventory.specs.Order.{km_in, grams_in, total_grams_in}
+use Rattle.inventory.specs.Order.{rest_in, km_in, grams_in, total_grams_in, total_rest_in}
 use Rattle.areas.specs.Numbers.{run_number}
 use Rattle.areas.proofs.Numbers.{number_trip, number_x, number_count, number_km, number_grams, number_rest, number_total-grams, number_total_rest}
 
@@ -86,20 +86,23 @@ module _ (l : List ℕ) (run : Run) (xs kms grams rests totals total_rests : Lis
   abbrev to_rests : List ℕ
   to_rests = put_mid 81 60 (put_mid 21 60 (put_mid 18 3 to_count kms) grams) rests
 
-  pub run_put : (xs ≡ run.x) × (length run.x ≡ 16) → kms ≡ tab (km_in run) (length (mid_of 18 3 to_count))
-      → grams ≡ tab (grams_in run) (length (mid_of 21 60 (put_mid 18 3 to_count kms))) → (rests ≡ run.rests) × (length run.rests ≡ 60)
-      → totals ≡ tab (total_grams_in run) (length (mid_of 141 15 to_rests)) → (total_rests ≡ run.total_rests) × (length run.total_rests ≡ 15)
+  pub run_put : xs ≡ tab (λ i. get_or run.x i 0) (length (mid_of 1 16 (set l 0 run.trip))) → kms ≡ tab (km_in run) (length (mid_of 18 3 to_count))
+      → grams ≡ tab (grams_in run) (length (mid_of 21 60 (put_mid 18 3 to_count kms))) → rests ≡ tab (rest_in run) (length (mid_of 81 60 (put_mid 21 60 (put_mid 18 3 to_count kms) grams)))
+      → totals ≡ tab (total_grams_in run) (length (mid_of 141 15 to_rests)) → total_rests ≡ tab (total_rest_in run) (length (mid_of 156 15 (put_mid 141 15 to_rests totals)))
       → put_mid 156 15 (put_mid 141 15 to_rests totals) total_rests ≡ tab (run_number run) 171
   run_put x k g r t u =
       let one = between_more 0 1 run.trip (between_none 0 (run_number run) l 171 0 0 h refl) refl refl (omega arith) (omega arith) (sym (number_trip run 0 refl)) in
-      let two = between_part xs 16 one (omega arith) (omega arith) (rw x.0 x.1) (λ i b. rw x.0 (sym (number_x run (1 + i) i (omega arith) b))) 17 refl in
+      let x = rw (mid_long 1 16 (set l 0 run.trip) (rw one.size (omega arith))) at x in
+      let two = between_part xs 16 one (omega arith) (omega arith) (rw x (tab_length (λ i. get_or run.x i 0) 16)) (λ i b. rw x (tab_at 0 (λ i. get_or run.x i 0) 16 i b) ∙ sym (number_x run (1 + i) i (omega arith) b)) 17 refl in
       let three = between_more 17 18 run.count two refl refl (omega arith) (omega arith) (sym (number_count run 17 refl)) in
       let k = rw (mid_long 18 3 to_count (rw three.size (omega arith))) at k in
       let four = between_part kms 3 three (omega arith) (omega arith) (rw k (tab_length (km_in run) 3)) (λ i b. rw k (tab_at 0 (km_in run) 3 i b) ∙ sym (number_km run (18 + i) i (omega arith) b)) 21 refl in
       let g = rw (mid_long 21 60 (put_mid 18 3 to_count kms) (rw four.size (omega arith))) at g in
       let five = between_part grams 60 four (omega arith) (omega arith) (rw g (tab_length (grams_in run) 60)) (λ i b. rw g (tab_at 0 (grams_in run) 60 i b) ∙ sym (number_grams run (21 + i) i (omega arith) b)) 81 refl in
-      let six = between_part rests 60 five (omega arith) (omega arith) (rw r.0 r.1) (λ i b. rw r.0 (sym (number_rest run (81 + i) i (omega arith) b))) 141 refl in
+      let r = rw (mid_long 81 60 (put_mid 21 60 (put_mid 18 3 to_count kms) grams) (rw five.size (omega arith))) at r in
+      let six = between_part rests 60 five (omega arith) (omega arith) (rw r (tab_length (rest_in run) 60)) (λ i b. rw r (tab_at 0 (rest_in run) 60 i b) ∙ sym (number_rest run (81 + i) i (omega arith) b)) 141 refl in
       let t = rw (mid_long 141 15 to_rests (rw six.size (omega arith))) at t in
       let seven = between_part totals 15 six (omega arith) (omega arith) (rw t (tab_length (total_grams_in run) 15)) (λ i b. rw t (tab_at 0 (total_grams_in run) 15 i b) ∙ sym (number_total-grams run (141 + i) i (omega arith) b)) 156 refl in
-      let eight = between_part total_rests 15 seven (omega arith) (omega arith) (rw u.0 u.1) (λ i b. rw u.0 (sym (number_total_rest run (156 + i) i (omega arith)))) 171 refl in
+      let u = rw (mid_long 156 15 (put_mid 141 15 to_rests totals) (rw seven.size (omega arith))) at u in
+      let eight = between_part total_rests 15 seven (omega arith) (omega arith) (rw u (tab_length (total_rest_in run) 15)) (λ i b. rw u (tab_at 0 (total_rest_in run) 15 i b) ∙ sym (number_total_rest run (156 + i) i (omega arith))) 171 refl in
       between eight (λ j b d. absurd (d (omega arith) b))

@@ -35,17 +35,17 @@ fn fill<F: Fn(usize) -> u64>(part: &mut [u64], number: F)
     }
 }
 
-// Writes a run to the numbers of an area.
+// Writes a run to the numbers of an area; std's copy_from_slice would want memmove, and the archive needs nothing but memcpy and memset.
 pub fn put_run(area: &mut [u64], run: &Run)
     requires { length area.old ≡ 171 }
     ensures { area.new ≡ tab (run_number run.now) 171 }
 {
     area[0] = run.trip;
-    area[1..17].copy_from_slice(&run.x);
+    fill(&mut area[1..17], |i| run.x[i]);
     area[17] = run.count;
     fill(&mut area[18..21], |fuel| run.km[fuel].0);
     fill(&mut area[21..81], |j| run.grams[j].0);
-    area[81..141].copy_from_slice(&run.rests);
+    fill(&mut area[81..141], |j| run.rests[j]);
     fill(&mut area[141..156], |k| run.total_grams[k].0);
-    area[156..171].copy_from_slice(&run.total_rests);
+    fill(&mut area[156..171], |k| run.total_rests[k]);
 }
