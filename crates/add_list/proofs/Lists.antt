@@ -1,21 +1,21 @@
 -- A list of adds that grows at its end, and what is said of a list. Assumes nothing.
-use mathlib.Core.Path.{◌≡◌, refl, ap, ◌∙◌}
+use mathlib.Core.Path.{◌≡◌, refl, sym, ap, ◌∙◌}
 use mathlib.Core.Bool.{Bool, true, false, not, cond, ◌&&◌}
 use mathlib.Core.List.{List, [], ◌∷◌, ◌++◌}
-use Prim.Native.Nat.{ℕ, zero, suc, ◌+◌, ◌*◌, ◌/◌, ◌%◌, ◌≤◌}
+use Prim.Native.Nat.{ℕ, zero, suc, ◌+◌, ◌*◌, ◌/◌, ◌%◌, ◌≤◌, ◌<◌}
 use native.Mathlib.Numerals.{add-one}
 use native.Mathlib.Omega.{arith}
 use borrow.Author.Tests.{eq-eqb, ne_eqb}
 use lib.Dec.{eqb}
-use lib.ListN.{length, length-append}
+use lib.ListN.{length, drop, get_or, length-append, length-drop, get_or-append}
+use lib.Seq.{drop_at, drop-drop, get_or-drop}
 use Rattle.units.specs.Grounds.{first_fit}
 use Rattle.inventory.specs.declared.Head.{Head}
 use Rattle.inventory.specs.declared.Record.{Record}
 use Rattle.inventory.specs.declared.Run.{Run}
 use Rattle.inventory.specs.Opening.{zero_run, open_number, open_run}
-use Rattle.inventory.specs.Adding.{add_number, add_run}
+use Rattle.inventory.specs.Adding.{add_number, add_run, with_totals}
 use Rattle.accuracy.specs.Claim.{run_after}
-use Rattle.inventory.specs.Adding.{with_totals}
 use Rattle.accuracy.proofs.Closed.{closed}
 use Rattle.accuracy.proofs.Whole.{after}
 use Rattle.std.specs.Prelude.{Option, Some, None}
@@ -23,8 +23,6 @@ use Rattle.std.specs.Option.{option_or}
 use Rattle.units.specs.declared.Refusal.{Refusal}
 use Rattle.units.specs.Refusals.{refusal_number}
 use Rattle.units.proofs.Refusals.{number_positive}
-use Rattle.inventory.specs.Opening.{fresh_run}
-use Rattle.inventory.proofs.Fresh.{empty_totals}
 use Rattle.add_list.specs.declared.FirstRefused.{FirstRefused}
 use Rattle.list_records.specs.Record.{record_at}
 use Rattle.add_list.specs.Records.{first_records, records_of}
@@ -132,6 +130,38 @@ module _ (first : Run) (numbers : List ℕ) where
   unfolding records_of
   all_first seen i h s = rw (← h) s
 
+-- ---- nine numbers, and what stands behind them
+
+module _ (numbers nine rest : List ℕ) (i : ℕ) (parts : drop (i * 9) numbers ≡ nine ++ rest) (size : length nine ≡ 9) where
+  its_number : (k j : ℕ) → k < 9 → i * 9 + k ≡ j → get_or nine k 0 ≡ get_or numbers j 0
+  its_number k j h e =
+      sym (get_or-append nine rest 0 k (omega arith)) ∙ ap (λ (l : List ℕ). get_or l k 0) (sym parts) ∙ get_or-drop (i * 9) numbers k 0 ∙ ap (λ (m : ℕ). get_or numbers m 0) e
+
+  pub its_record : record_at nine 0 ≡ record_at numbers (i * 9)
+  unfolding record_at
+  its_record =
+      rw (
+        its_number 0 (i * 9) (omega arith) (omega arith),
+        its_number 1 (i * 9 + 1) (omega arith) refl,
+        its_number 2 (i * 9 + 2) (omega arith) refl,
+        its_number 3 (i * 9 + 3) (omega arith) refl,
+        its_number 4 (i * 9 + 4) (omega arith) refl,
+        its_number 5 (i * 9 + 5) (omega arith) refl,
+        its_number 6 (i * 9 + 6) (omega arith) refl,
+        its_number 7 (i * 9 + 7) (omega arith) refl,
+        its_number 8 (i * 9 + 8) (omega arith) refl,
+      ) refl
+
+  pub behind : (n : ℕ) → n ≡ i + 1 → (n * 9 ≤ length numbers) × (rest ≡ drop (n * 9) numbers)
+  behind n e = (
+    omega (arith, ap length parts, length-append nine rest, length-drop (i * 9) numbers),
+    sym (drop_at nine rest 9 size) ∙ ap (drop 9) (sym parts) ∙ drop-drop 9 (i * 9) numbers ∙ ap (λ (m : ℕ). drop m numbers) (omega arith),
+  )
+
+-- no nine are left
+pub at_end : (numbers rest : List ℕ) (i : ℕ) → i * 9 ≤ length numbers → rest ≡ drop (i * 9) numbers → length rest < 9 → i ≡ length numbers / 9
+at_end numbers rest i h e few = omega (arith, ap length e, length-drop (i * 9) numbers)
+
 -- ---- the answer
 
 module _ (head : Head) (numbers : List ℕ) where
@@ -170,13 +200,3 @@ module _ (head : Head) (numbers : List ℕ) where
     pub given_first : first_refused (open_run head) 1 (records_of numbers) ≡ list_first head numbers
     unfolding list_first
     given_first = rw z
-
--- ---- the run that opening gives
-
-pub opened_totals : (head : Head) → with_totals (open_run head) ≡ open_run head
-unfolding open_run fresh_run zero_run
-opened_totals head = by (eqb (open_number head) 0)
-  where
-    by : (b : Bool) → with_totals (cond b (fresh_run head) zero_run) ≡ cond b (fresh_run head) zero_run
-    by true = empty_totals head.trip _
-    by false = empty_totals 0 _

@@ -38,30 +38,36 @@ first_refused run place [] = refused_as 0 0
 first_refused run place (rec ∷ recs) =
     cond (eqb (add_number run rec) 0) (first_refused (add_run run rec) (place + 1) recs) (refused_as place (add_number run rec))
 
--- the run after the list, how many records were taken, and the first refused one; zeros where the list is refused
+-- the run after the list; the run of zeros where the list is refused
 unfoldable pub list_run : Head → List ℕ → Run
 list_run head numbers = cond (eqb (list_number head numbers) 0) (run_after (open_run head) (records_of numbers)) zero_run
 
+-- how many of its records were taken; 0 where the list is refused
 unfoldable pub list_taken : Head → List ℕ → ℕ
 list_taken head numbers = cond (eqb (list_number head numbers) 0) (length (accepted (records_of numbers))) 0
 
+-- the first refused one of its records; 0 and 0 where the list is refused
 unfoldable pub list_first : Head → List ℕ → RefusedAt
 list_first head numbers = cond (eqb (list_number head numbers) 0) (first_refused (open_run head) 1 (records_of numbers)) (refused_as 0 0)
 
 -- ---- what an answer says of them
 
+-- the place and the number of the first refused one that an answer may carry
 abbrev pub refused_at : Option FirstRefused → RefusedAt
 refused_at None = refused_as 0 0
 refused_at (Some first) = refused_as first.place (refusal_number first.reason)
 
+-- the run of an answer, zeros where it is a refusal
 abbrev pub added_run : Result ListAdded Refusal → Run
 added_run (Ok added) = added.run
 added_run (Err r) = zero_run
 
+-- how many records it says were taken
 abbrev pub added_taken : Result ListAdded Refusal → ℕ
 added_taken (Ok added) = added.taken
 added_taken (Err r) = 0
 
+-- which of them it says was refused first
 abbrev pub added_first : Result ListAdded Refusal → RefusedAt
 added_first (Ok added) = refused_at added.first
 added_first (Err r) = refused_as 0 0

@@ -13,7 +13,7 @@ ghost use Rattle.add_list.specs.Answer.{list_number, list_run, list_taken, list_
 use inventory::{Head, Run};
 use units::Refusal;
 
-// The first refused record of a list: its place, from 1, and why.
+// The first refused record of a list: its place, from 1, and why. A sheet's BadLine counts lines, the head's among them.
 #[derive(Clone, Copy)]
 pub struct FirstRefused {
     pub place: usize,
@@ -29,15 +29,16 @@ pub struct ListAdded {
 }
 
 // Adds the records of a list, nine numbers each, and gives the first that is refused. The run is known to be in order, so that is
-// not tested again, and its totals are made once, at the end.
+// not tested again, and its totals are made once, at the end. A Run crosses from C
+// with any numbers, so no type of it carries what this requires.
 fn add_all(run: &mut Run, numbers: &[u64]) -> Option<FirstRefused>
     requires { in_order (with_totals run.old) ≡ true }
     ensures run { run.new ≡ run_after (with_totals run.old) (records_of numbers.now) }
     ensures first { refused_at result ≡ first_refused (with_totals run.old) 1 (records_of numbers.now) }
 {
     let mut first = None;
-    for i in 0..numbers.len() / 9 {
-        let rec = list_records::record_at(numbers, i * 9);
+    for (i, nine) in numbers.chunks_exact(9).enumerate() {
+        let rec = list_records::record_of(nine);
         if let Err(reason) = recording::add_before_totals(run, rec) {
             first = first.or(Some(FirstRefused {
                 place: i + 1,
@@ -60,10 +61,7 @@ pub fn add_list(head: Head, numbers: &[u64]) -> Result<ListAdded, Refusal>
     if numbers.len() % 9 != 0 {
         return Err(Refusal::LineShape);
     }
-    let mut run = match recording::open_run(head) {
-        Ok(run) => run,
-        Err(reason) => return Err(reason),
-    };
+    let mut run = recording::open_run(head)?;
     let first = add_all(&mut run, numbers);
     let taken = run.count;
     Ok(ListAdded { run, taken, first })

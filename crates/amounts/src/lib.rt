@@ -53,7 +53,8 @@ pub fn with_cold(sum: Amount, k: VehicleKm, f: u64) -> Amount
     carried(Grams(m), s)
 }
 
-// The cold factor of a class and a quantity from E and the values X, 0 for a class without a cold part.
+// The cold factor of a class and a quantity from E and the values X, 0 for a class without a cold part. Both are numbers as in
+// classes: a record may hold any class, and a quantity is a place in a run.
 #[tactic(auto, using(classes::proofs::Classes::x_below))]
 pub fn cold_rate(class: u64, quantity: usize, e: u64, x: &[u64; 16]) -> u64
     requires { (quantity < 5) × (e ≤ 2000000000) × XLimits x.now }

@@ -5,6 +5,10 @@ use Prim.Native.Nat.{ℕ, ◌+◌, ◌*◌, ◌%◌, ◌≤◌, ◌<◌}
 use native.Mathlib.Omega.{arith}
 use borrow.Rule.Slice.PartMut.{put_mid}
 use lib.ListN.{length, set}
+use Rattle.std.specs.Prelude.{Result, Ok, Err, IsOkAnd, MatchResult}
+use Rattle.std.specs.Result.{result_unwrap_or}
+use Rattle.units.specs.declared.Refusal.{Refusal}
+use Rattle.units.specs.Refusals.{answer_number}
 use Rattle.units.specs.Lists.{tab}
 use Rattle.units.proofs.Tab.{tab_at, tab_length}
 use borrow.Author.Tests.{lt-ltb, eq-eqb, ne_eqb}
@@ -12,8 +16,8 @@ use Rattle.units.specs.Grounds.{first_fit}
 use Rattle.units.proofs.Between.{Between, between_none, between_more, between}
 use Rattle.inventory.specs.declared.Head.{Head}
 use Rattle.inventory.specs.declared.Run.{Run}
-use Rattle.inventory.specs.Opening.{open_number, open_run}
-use Rattle.areas.specs.Areas.{Areas, opened_areas}
+use Rattle.inventory.specs.Opening.{open_number, open_run, zero_run, given_run}
+use Rattle.areas.specs.Areas.{opened_areas}
 use Rattle.areas.specs.Numbers.{run_number, areas_number, numbers_of}
 use Rattle.areas.specs.Calls.{open_areas_number, open_areas_numbers}
 use Rattle.area_runs.proofs.Written.{between_part}
@@ -49,16 +53,32 @@ spread_done run numbers i l p a b =
 
 -- ---- the number and the numbers of opening
 
+-- an answer without its run has the same number
+without : (P : Run → Unit {0} → Type 0) (v : Result Run Refusal) (answer : Result (Unit {0}) Refusal) → MatchResult v (λ x. IsOkAnd answer (P x)) (λ e. answer ≡ Err e) → answer_number answer ≡ answer_number v
+unfolding answer_number
+without P (Ok x) (Ok y) m = refl
+without P (Ok x) (Err e) m = absurd m
+without P (Err e) answer m = rw m
+
+given : (v : Result Run Refusal) → result_unwrap_or v zero_run ≡ given_run v
+unfolding given_run
+given (Ok run) = refl
+given (Err r) = refl
+
 module _ (numbers : List ℕ) (head : Head) where
   pub open_short : (length numbers ≡ 2737 → ⊥) → (16 ≡ open_areas_number numbers head) × (numbers ≡ open_areas_numbers numbers head)
   unfolding open_areas_number open_areas_numbers first_fit
   open_short h = (rw (ne_eqb (length numbers) 2737 h), rw (ne_eqb (length numbers) 2737 h))
 
-  module _ (size : length numbers ≡ 2737) where
-    pub open_number_lem : (n : ℕ) → n ≡ open_number head → n ≡ open_areas_number numbers head
+  module _ (size : length numbers ≡ 2737) (v : Result Run Refusal) where
+    as_areas : (n : ℕ) → n ≡ open_number head → n ≡ open_areas_number numbers head
     unfolding open_areas_number open_number first_fit
-    open_number_lem n e = rw (eq-eqb (length numbers) 2737 size) e
+    as_areas n e = rw (eq-eqb (length numbers) 2737 size) e
 
-    pub open_written : (run : Run) {l : List ℕ} → run ≡ open_run head → l ≡ numbers_of (same_runs run) → l ≡ open_areas_numbers numbers head
+    pub number_opened : (P : Run → Unit {0} → Type 0) (answer : Result (Unit {0}) Refusal) → MatchResult v (λ x. IsOkAnd answer (P x)) (λ e. answer ≡ Err e)
+        → answer_number v ≡ open_number head → answer_number answer ≡ open_areas_number numbers head
+    number_opened P answer m n = without P v answer m ∙ as_areas (answer_number v) n
+
+    pub numbers_opened : {l : List ℕ} {run zeros : Run} → zeros ≡ zero_run → run ≡ result_unwrap_or v zeros → given_run v ≡ open_run head → l ≡ numbers_of (same_runs run) → l ≡ open_areas_numbers numbers head
     unfolding open_areas_numbers opened_areas
-    open_written run e q = q ∙ rw (eq-eqb (length numbers) 2737 size, e)
+    numbers_opened z e g q = q ∙ rw (eq-eqb (length numbers) 2737 size, e, z, given v, g)

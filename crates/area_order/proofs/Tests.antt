@@ -7,10 +7,10 @@ use native.Mathlib.Numerals.{add-one}
 use native.Mathlib.Omega.{arith}
 use lib.ListN.{length, get_or}
 use lib.Dec.{leb, eqb}
-use borrow.Author.Tests.{eq-eqb, ne_eqb, not-false, not-true}
+use borrow.Author.Tests.{eq-eqb, ne_eqb}
 use Rattle.units.specs.Lists.{all_below, sum_to}
 use Rattle.units.specs.Grounds.{outside}
-use Rattle.units.proofs.Tests.{all, at, fails, and_false, and_left, and_right}
+use Rattle.units.proofs.Tests.{all, at, fails, and_left, and_right}
 use Rattle.classes.specs.Classes.{x_count}
 use Rattle.inventory.specs.declared.Run.{Run}
 use Rattle.inventory.specs.Order.{x_ok, sums_ok, km_ok, in_order, same_head, record_limit}
@@ -24,9 +24,6 @@ use Rattle.areas.specs.Calls.{numbers_in_order}
 -- ---- a run with the head of one whose L and X are in range
 
 module _ (first run : Run) where
-  pub other_head : false ≡ same_head first run → false ≡ (in_order run && same_head first run)
-  other_head h = rw (← h) (sym (and_false (in_order run)))
-
   module _ (head : (not (outside 10 200 first.trip) && all_below (x_ok first) x_count) ≡ true) (same : true ≡ same_head first run) where
     its_head : true ≡ (not (outside 10 200 run.trip) && all_below (x_ok run) x_count)
     its_head =

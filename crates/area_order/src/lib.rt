@@ -21,6 +21,7 @@ fn area_ok(first: &AreaRun, run: &AreaRun) -> bool
 }
 
 // Whether the numbers are areas in order.
+#[tactic(auto, using(crate::proofs::Tests::bad_length, crate::proofs::Tests::first_bad), unfolding(units::specs::Lists::all_below, units::specs::Lists::sum_to))]
 pub fn in_order(numbers: &[u64]) -> bool
     ensures { result ≡ numbers_in_order numbers.now }
 {
@@ -32,6 +33,7 @@ pub fn in_order(numbers: &[u64]) -> bool
         return false;
     }
     let mut common: u64 = 0;
+    // by number: chunks_exact leaves the place and the length of each part to the proof, and AreaRun::at promises both
     for i in 0..16 {
         let run = AreaRun::at(numbers, i);
         if !area_ok(&first, &run) {

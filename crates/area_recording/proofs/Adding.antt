@@ -11,24 +11,24 @@ use lib.Dec.{eqb}
 use lib.ListN.{length, set, get_or, length-set}
 use lib.Seq.{get_or-set_same, get_or-set_other, ext_get_or}
 use borrow.Author.Tests.{lt-ltb, eqb-true, eqb-false}
-use Rattle.std.specs.Prelude.{Result, Ok, Err}
-use Rattle.std.specs.Result.{IsErrAnd}
+use Rattle.std.specs.Prelude.{Result, IsErrAnd}
 use Rattle.units.specs.declared.Refusal.{Refusal}
 use Rattle.units.specs.Refusals.{answer_number, refusal_number}
-use Rattle.units.proofs.Refusals.{number_positive, refused_number}
+use Rattle.units.proofs.Refusals.{number_positive}
 use Rattle.units.proofs.Passed.{passed_up}
 use Rattle.units.specs.Lists.{tab}
-use Rattle.units.specs.Grounds.{first_fit}
+use Rattle.units.specs.Grounds.{Ground, first_fit}
 use Rattle.units.proofs.Tab.{tab_at, tab_length}
 use Rattle.units.proofs.Tests.{and_left}
 use Rattle.inventory.specs.declared.Record.{Record}
 use Rattle.inventory.specs.declared.Run.{Run}
+use Rattle.inventory.specs.Opening.{given_run}
 use Rattle.inventory.specs.Records.{record_grounds}
 use Rattle.inventory.specs.Order.{in_order}
 use Rattle.inventory.specs.Adding.{run_with}
 use Rattle.areas.specs.Areas.{common_after, area_full, area_grounds, with_run, areas_with}
 use Rattle.areas.specs.Numbers.{run_at, run_number, areas_of, areas_number, numbers_of}
-use Rattle.areas.specs.Calls.{numbers_in_order, add_area_number, add_area_numbers}
+use Rattle.areas.specs.Calls.{numbers_in_order, call_grounds, add_area_number, add_area_numbers, area_run_number, area_run}
 use Rattle.areas.proofs.Numbers.{number_read}
 use Rattle.areas.proofs.Order.{size_is, areas_ok, run_ok, count_most, common_most}
 use Rattle.areas.proofs.Adding.{area_taken, add_in_turn}
@@ -74,6 +74,23 @@ module _ (numbers ys : List ℕ) (area : ℕ) (run : Run) (common : ℕ) (size :
       get_or-set_other m 2736 j common 0 (λ z. omega arith) ∙ part_number j q _ refl
       ∙ sym (tab_at 0 F 2737 j t)) (eq-or-lt_of_le (omega arith)))
 
+-- ---- 16, then 17, whatever grounds follow
+
+module _ (numbers : List ℕ) (area : ℕ) (own : List Ground) where
+  pub call_unordered : numbers_in_order numbers ≡ false → 16 ≡ first_fit (call_grounds numbers area own)
+  unfolding first_fit
+  call_unordered o = rw o
+
+  pub call_no_area : numbers_in_order numbers ≡ true → 15 < area → 17 ≡ first_fit (call_grounds numbers area own)
+  unfolding first_fit
+  call_no_area o h = rw (o, lt-ltb 15 area h)
+
+-- the run where that refuses
+pub run_refused : (numbers : List ℕ) (area : ℕ) (answer : Result Run Refusal) (r : Refusal) → IsErrAnd answer (λ y. y ≡ r) → refusal_number r ≡ area_run_number numbers area
+    → (answer_number answer ≡ area_run_number numbers area) × (given_run answer ≡ area_run numbers area)
+unfolding answer_number given_run area_run
+run_refused numbers area answer r is e = rw (passed_up answer r is) (e, rw (← e, number_positive r))
+
 -- ---- the add
 
 -- what a record has that is taken
@@ -82,17 +99,11 @@ record_own count common rec z =
     eqb-true _ 0 (and_left (eqb (first_fit (record_grounds rec)) 0) (not (area_full count common)) (sym (area_taken count common rec) ∙ ap (λ n. eqb n 0) z))
 
 module _ (numbers : List ℕ) (area : ℕ) (rec : Record) where
-  -- refused, every number stays
-  pub numbers_kept : (n : ℕ) → n ≡ add_area_number numbers area rec → eqb n 0 ≡ false → (n ≡ add_area_number numbers area rec) × (numbers ≡ add_area_numbers numbers area rec)
-  unfolding add_area_numbers
-  numbers_kept n e h = (e, rw (← e, h))
-
-  -- what a question mark hands on
-  pub refused_kept : {A B : Type 0} (v : Result A Refusal) → answer_number v ≡ add_area_number numbers area rec → (answer : Result B Refusal) (r : Refusal) → IsErrAnd answer (λ y. y ≡ r) → v ≡ Err r
+  -- what a question mark hands on: refused, every number stays
+  pub refused_kept : {B : Type 0} (answer : Result B Refusal) (r : Refusal) → IsErrAnd answer (λ y. y ≡ r) → refusal_number r ≡ add_area_number numbers area rec
       → (answer_number answer ≡ add_area_number numbers area rec) × (numbers ≡ add_area_numbers numbers area rec)
-  unfolding answer_number
-  refused_kept v h answer r is e =
-      rw (passed_up answer r is) (numbers_kept (refusal_number r) (sym (refused_number v r _ e h)) (number_positive r))
+  unfolding answer_number add_area_numbers
+  refused_kept answer r is e = rw (passed_up answer r is) (e, rw (← e, number_positive r))
 
   module _ (o : numbers_in_order numbers ≡ true) where
     pub common_low : get_or numbers 2736 0 ≤ 200

@@ -1,21 +1,17 @@
 -- Laws of numbers of which a part is written anew, and of a run's parts written one behind the other.
 -- Assumes nothing.
 use mathlib.Core.Path.{◌≡◌, refl, ap, sym, ◌∙◌}
-use mathlib.Core.Bool.{Bool, true, false, cond, ◌&&◌}
 use mathlib.Core.Logic.{⊎_elim}
 use mathlib.Core.List.{List, ◌++◌}
 use Prim.Native.Nat.{ℕ, ◌+◌, ◌-◌, ◌≤◌, ◌<◌}
 use native.Mathlib.Omega.{arith}
 use borrow.Rule.Slice.PartMut.{put_mid, mid_of, post_of, same_len_mid}
 use lib.ListN.{length, set, take, drop, get_or, get_or-append, length-drop}
-use lib.Seq.{get_or-take, get_or-drop, ext_get_or}
-use lib.Dec.{ltb, leb}
-use borrow.Author.Tests.{lt-ltb, le-ltb, le-leb, lt-leb, ltb-true, ltb-false, leb-true, leb-false}
+use lib.Seq.{get_or-take, get_or-drop}
 use Rattle.std.proofs.Common.{length-take-le}
 use Rattle.std.proofs.lemmas.List.{get_or-append_right}
 use Rattle.units.specs.Lists.{tab}
 use Rattle.units.proofs.Tab.{tab_at, tab_length}
-use Rattle.units.proofs.Tests.{and_false}
 use Rattle.units.proofs.Sums.{le_or_lt}
 use Rattle.units.proofs.Between.{Between, between_none, between_more, between}
 use Rattle.inventory.specs.declared.Run.{Run}

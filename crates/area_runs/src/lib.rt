@@ -35,7 +35,8 @@ fn fill<F: Fn(usize) -> u64>(part: &mut [u64], number: F)
     }
 }
 
-// Writes a run to the numbers of an area; std's copy_from_slice would want memmove, and the archive needs nothing but memcpy and memset.
+// Writes a run to the numbers of an area. At these lengths std's copy_from_slice is a call of memmove, and the archive needs nothing
+// but memcpy and memset.
 pub fn put_run(area: &mut [u64], run: &Run)
     requires { length area.old ≡ 171 }
     ensures { area.new ≡ tab (run_number run.now) 171 }

@@ -17,7 +17,7 @@ fn print_grams(out: &mut impl Write, grams: &[Grams]) -> io::Result<()> {
     Ok(())
 }
 
-// Every number of a run, in the order of its fields.
+// Every number of a run, in the order of its fields. `Run` is another crate's: Display would need a struct around it, for one use.
 fn print_fields(out: &mut impl Write, run: &Run) -> io::Result<()> {
     print(out, run.trip)?;
     print_numbers(out, &run.x)?;
@@ -31,7 +31,8 @@ fn print_fields(out: &mut impl Write, run: &Run) -> io::Result<()> {
     print_numbers(out, &run.total_rests)
 }
 
-// The number of the run of an area, and of it the answer of a total, 0 and 0 where there is no run.
+// The number of the run of an area, and of it the answer of a total, 0 and 0 where there is no run. The fuel and the
+// quantity are numbers, as a line of standard input and the C interface have them.
 fn print_total(
     out: &mut impl Write,
     numbers: &[u64],
@@ -68,30 +69,24 @@ fn change(out: &mut impl Write, line: &[u8], numbers: &mut [u64]) -> io::Result<
     }
 }
 
-// Changes a number by hand.
+// Changes a number by hand, where there is one at the place that the line names.
 fn put(numbers: &mut [u64], place: u64, value: u64) {
-    if place < 2880 {
-        let k = place as usize;
-        if k < numbers.len() {
-            numbers[k] = value;
-        }
+    if let Some(number) = numbers.get_mut(place as usize) {
+        *number = value;
     }
 }
 
-// What a line does to the first numbers, as many as are lent.
+// What a line does to the first numbers, as many as are lent; the state is `main`'s, so no struct holds it.
 fn change_lent(
     out: &mut impl Write,
     line: &[u8],
     numbers: &mut [u64],
     lent: u64,
 ) -> io::Result<()> {
-    if lent <= 2880 {
-        let n = lent as usize;
-        if n <= numbers.len() {
-            return change(out, line, &mut numbers[..n]);
-        }
+    match numbers.get_mut(..lent as usize) {
+        Some(first) => change(out, line, first),
+        None => Ok(()),
     }
-    Ok(())
 }
 
 // One line: the line itself, then what it does or asks.
@@ -108,8 +103,8 @@ fn case(out: &mut impl Write, line: &[u8], numbers: &mut [u64], lent: &mut u64) 
     }
     // behind an add the common use
     if let [b'a', b'd', ..] = line {
-        if 2736 < numbers.len() {
-            print(out, numbers[2736])?;
+        if let Some(common) = numbers.get(2736) {
+            print(out, *common)?;
         }
     }
     out.write_all(b"\n")

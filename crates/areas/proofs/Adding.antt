@@ -1,6 +1,6 @@
 -- Laws of the grounds of adding to an area and of the run of an area. Assumes nothing.
 use mathlib.Core.Path.{◌≡◌, refl}
-use mathlib.Core.Bool.{true, false, not, cond, ◌&&◌}
+use mathlib.Core.Bool.{true, not, cond, ◌&&◌}
 use mathlib.Core.List.{List}
 use Prim.Native.Nat.{ℕ, ◌≤◌, ◌<◌}
 use lib.Dec.{eqb}
@@ -28,10 +28,6 @@ module _ (count common : ℕ) (rec : Record) where
 -- ---- 16, then 17
 
 module _ (numbers : List ℕ) (area : ℕ) where
-  pub run_unordered : numbers_in_order numbers ≡ false → (16 ≡ area_run_number numbers area) × (zero_run ≡ area_run numbers area)
-  unfolding area_run_number area_run first_fit
-  run_unordered o = (rw o, rw o)
-
   module _ (o : numbers_in_order numbers ≡ true) where
     pub run_no_area : 15 < area → (17 ≡ area_run_number numbers area) × (zero_run ≡ area_run numbers area)
     unfolding area_run_number area_run first_fit
@@ -42,10 +38,6 @@ module _ (numbers : List ℕ) (area : ℕ) where
     run_given h = (rw (o, le-ltb 15 area h), rw (o, le-ltb 15 area h))
 
   module _ (rec : Record) where
-    pub add_unordered : numbers_in_order numbers ≡ false → 16 ≡ add_area_number numbers area rec
-    unfolding add_area_number first_fit
-    add_unordered o = rw o
-
     module _ (o : numbers_in_order numbers ≡ true) where
       pub add_no_area : 15 < area → 17 ≡ add_area_number numbers area rec
       unfolding add_area_number first_fit

@@ -15,7 +15,7 @@ pub struct AreaRun<'a> {
 }
 
 impl AreaRun<'_> {
-    // The run of area i.
+    // The run of area i, which is an area's number and no position among the numbers.
     pub fn at(numbers: &[u64], i: usize) -> AreaRun<'_>
         requires { i * 171 + 171 ≤ length numbers.now }
         ensures { run_at result.numbers.now 0 ≡ run_at numbers.now (i * 171) }
@@ -42,10 +42,12 @@ impl RunNumbers for AreaRun<'_> {
         self.numbers[17]
     }
 
+    // fuel is a place below 3, which the trait's contract asks for
     fn km(&self, fuel: usize) -> VehicleKm {
         VehicleKm(self.numbers[18 + fuel])
     }
 
+    // sum and total are the trait's two methods: the same shape over other places
     fn sum(&self, j: usize) -> Amount {
         Amount {
             grams: Grams(self.numbers[21 + j]),

@@ -19,7 +19,7 @@ pub struct BalanceFigures {
     pub grams: Grams,
 }
 
-// k by long division and the digits it worked, where k is in range.
+// k by long division and the digits it worked, where k is in range. A dividend and a divisor: a struct of the two would say no more.
 fn ratio_in_range(s: u64, f: Grams) -> Option<Ratio>
     requires { (s ≤ 999999999) × ((0 < f.0) × (f.0 ≤ 20000000000000000)) }
     ensures { result ≡ ratio_in_range s f.0 }
@@ -35,7 +35,8 @@ fn ratio_in_range(s: u64, f: Grams) -> Option<Ratio>
     Some(r)
 }
 
-// A total balanced against sold fuel in tonnes.
+// A total balanced against sold fuel in tonnes. Fuel and quantity are numbers, and each is a parameter: callers hand over any, C
+// one by one, and one that is none is refused with 11.
 pub fn balance(run: &Run, fuel: u64, quantity: u64, sold: u64) -> Result<BalanceFigures, Refusal>
     ensures answer { balanced_answer result ≡ balance_of run.now fuel quantity sold }
     ensures near { BalanceNear (balanced_answer result) (printed_total run.now (fuel - 1) (quantity - 1)) sold (printed_fuel run.now (fuel - 1)) }

@@ -1,9 +1,10 @@
 -- Laws of what is read from the book: the line of a class on its page, and three lines as the 15 factors. Assumes nothing.
-use mathlib.Core.Path.{◌≡◌, ◌∙◌}
+use mathlib.Core.Path.{◌≡◌, refl, ◌∙◌}
 use mathlib.Core.List.{List, [], ◌∷◌}
 use Prim.Native.Nat.{ℕ, zero, suc, ◌+◌, ◌*◌, ◌-◌, ◌/◌, ◌%◌, ◌<◌}
 use native.Mathlib.Omega.{arith}
 use lib.ListN.{get_or}
+use Rattle.units.specs.declared.Speed.{Speed}
 use Rattle.units.specs.Lists.{tab}
 use Rattle.units.proofs.Tab.{tab_at, tab_alike}
 use Rattle.factors.specs.Factors.{Driven, emission_factor, factor_at}
@@ -23,6 +24,13 @@ page_line t p place k c e h m =
 line_factor : (class q road v : ℕ) → Driven class v → (class ≡ 5 → ⊥) → q < 5 → get_or (line_of book (place_of class) (v - 10)) q 0 ≡ emission_factor class q road v
 unfolding line_of
 line_factor class q road v d n h = tab_at 0 (λ q. get_or book (entry_place (place_of class) q (v - 10)) 0) 5 q h ∙ book_claim.entry_factor class q road v d n h
+
+-- the number of a road's speed
+pub road_speed : (u r h : Speed) (road : ℕ) → (get_or (u ∷ r ∷ h ∷ []) road (record { 0 = 0 })).0 ≡ get_or (u.0 ∷ r.0 ∷ h.0 ∷ []) road 0
+road_speed u r h zero = refl
+road_speed u r h (suc zero) = refl
+road_speed u r h (suc (suc zero)) = refl
+road_speed u r h (suc (suc (suc i))) = refl
 
 -- a road's speed can be driven if the three can
 pub roads : (class u r h : ℕ) → Driven class u → Driven class r → Driven class h → (road : ℕ) → road < 3 → Driven class (get_or (u ∷ r ∷ h ∷ []) road 0)

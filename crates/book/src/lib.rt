@@ -1,7 +1,7 @@
 // The factor book, and the 15 factors of a record read from it.
 #![tactic(auto)]
 
-ghost use Rattle.std.specs.Prelude.{◌≡◌, [], ◌∷◌, ◌-◌, ◌≤◌, ◌<◌, get_or};
+ghost use Rattle.std.specs.Prelude.{◌≡◌, ◌-◌, ◌≤◌, ◌<◌};
 ghost use Rattle.units.specs.Lists.{tab};
 ghost use Rattle.factors.specs.Factors.{Driven, factor_at};
 ghost use Rattle.book_entries.specs.Book.{book, place_of};
@@ -28,7 +28,7 @@ fn page_of(n: usize) -> [[u64; 5]; 2]
     book_pages::page_at(&t, n)
 }
 
-// The place of a class in the book.
+// The place of a class in the book. Here and below the class is the number of a record, which a caller may set to any.
 #[tactic(auto, unfolding(book_entries::specs::Book::place_of))]
 fn place_of(class: u64) -> usize
     requires { (1 ≤ class) × (class ≤ 7) × (class ≡ 5 → ⊥) }
@@ -46,24 +46,9 @@ fn line_of(class: u64, v: Speed) -> [u64; 5]
 {
     let place = place_of(class);
     let k = (v.0 - 10) as usize;
-    let p = page_of(place / 2 * 121 + k);
-    let c = place % 2;
-    if c == 0 {
-        return p[0];
-    }
-    p[1]
-}
-
-// The speed on a road.
-fn speed_on(road: usize, speeds: Speeds) -> Speed
-    requires { road < 3 }
-    ensures { result.0 ≡ get_or (speeds.urban.0 ∷ speeds.rural.0 ∷ speeds.highway.0 ∷ []) road 0 }
-{
-    match road {
-        0 => speeds.urban,
-        1 => speeds.rural,
-        _ => speeds.highway,
-    }
+    let [first, second] = page_of(place / 2 * 121 + k);
+    // By `[first, second][place % 2]` the page would be stored first: 4 ns more of 24 for the 15 factors.
+    if place % 2 == 0 { first } else { second }
 }
 
 // The 15 factors of a class: 5 quantities of 3 roads, each road at its own speed; class 5 is not in the book. The loop keeps
@@ -75,9 +60,10 @@ pub fn factors_of(class: u64, speeds: Speeds) -> [u64; 15]
     if class == 5 {
         return factors::two_stroke();
     }
+    let by_road = [speeds.urban, speeds.rural, speeds.highway];
     let mut lines = [[0u64; 5]; 3];
-    for road in 0..3 {
-        lines[road] = line_of(class, speed_on(road, speeds));
+    for (road, v) in by_road.iter().enumerate() {
+        lines[road] = line_of(class, *v);
     }
     let u = lines[0];
     let r = lines[1];

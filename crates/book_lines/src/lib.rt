@@ -5,7 +5,10 @@ ghost use Rattle.std.specs.Prelude.{◌≡◌, ◌+◌, ◌*◌, ◌<◌, get_or
 ghost use Rattle.book_entries.specs.Book.{entry_place};
 ghost use Rattle.book_lines.specs.Lines.{Others, line_of, page_of};
 
-// The entry of the class at a place, a quantity and speed 10 + k.
+// The whole table is lent with the places, here and below, and not a part of it: places that are known when the program is compiled
+// are what keeps the table from being built at each call (docs/PERFORMANCE.md).
+//
+// The entry of the class at a place, a quantity and speed 10 + k; a quantity is a place too, and no enum.
 fn entry_at(t: &[u64; 3630], place: usize, quantity: usize, k: usize) -> u64
     requires { (place < 6) × (quantity < 5) × (k < 121) }
     ensures { result ≡ get_or t.now (entry_place place quantity k) 0 }

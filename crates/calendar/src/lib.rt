@@ -18,7 +18,8 @@ pub struct Days {
     pub last: u64,
 }
 
-// What a head covers: the whole year in twelfths, or the days from one date to another.
+// What a head covers: the whole year in twelfths, or the days from one date to another. SPECIFICATION names both cases, and
+// `Option<Days>` would leave the first without a name.
 #[derive(Clone, Copy)]
 pub enum Period {
     Year,

@@ -9,7 +9,7 @@ ghost use Rattle.capi_answers.specs.Answers.{run_answer};
 use inventory::Run;
 use units::Refusal;
 
-// A number, 0 where it is taken, and a run.
+// A number, 0 where it is taken, and a run: C has no Result.
 #[repr(C)]
 #[derive(Clone, Copy)]
 pub struct RunAnswer {

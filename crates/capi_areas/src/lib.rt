@@ -9,14 +9,14 @@ ghost use Rattle.capi_answers.specs.Answers.{run_answer};
 
 use capi_answers::RunAnswer;
 use capi_heads::HeadNumbers;
-use inventory::Record;
+use inventory::{Head, Record};
 
 #[unsafe(no_mangle)]
 pub extern "C" fn haldurap_open_areas(numbers: &mut [u64], head: HeadNumbers) -> u64
     ensures number { result ≡ open_areas_number numbers.old (head_from head) }
     ensures numbers { numbers.new ≡ open_areas_numbers numbers.old (head_from head) }
 {
-    units::answer_number(&area_opening::open_areas(numbers, capi_heads::head_from(head)))
+    units::answer_number(&area_opening::open_areas(numbers, Head::from(head)))
 }
 
 #[unsafe(no_mangle)]

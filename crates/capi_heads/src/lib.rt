@@ -16,15 +16,15 @@ pub struct HeadNumbers {
     pub last: u64,
 }
 
-// The head of these numbers.
-pub fn head_from(h: HeadNumbers) -> Head
-    ensures { result ≡ head_from h }
-{
-    let temps = h.temps;
-    let period = calendar::period_from(h.first, h.last);
-    Head {
-        trip: h.trip,
-        temps,
-        period,
+impl From<HeadNumbers> for Head {
+    ghost from_gives = { λ x y. y ≡ head_from x };
+
+    fn from(h: HeadNumbers) -> Head {
+        let temps = h.temps;
+        Head {
+            trip: h.trip,
+            temps,
+            period: calendar::period_from(h.first, h.last),
+        }
     }
 }

@@ -8,11 +8,11 @@ ghost use Rattle.capi_lists.specs.Answers.{list_answer, added_answer, sheet_answ
 
 use add_list::ListAdded;
 use capi_heads::HeadNumbers;
-use inventory::Run;
+use inventory::{Head, Run};
 use sheet::BadLine;
 use units::Refusal;
 
-// A number, how many records were taken, the place and number of the first refused one, and a run.
+// A number, how many records were taken, the place and number of the first refused one, and a run: C has no Result.
 #[repr(C)]
 #[derive(Clone, Copy)]
 pub struct ListAnswer {
@@ -56,7 +56,7 @@ impl From<Result<ListAdded, Refusal>> for ListAnswer {
     }
 }
 
-// A number and its line, both 0 where the sheet is taken, and a run.
+// A number and its line, both 0 where the sheet is taken, and a run: C has no Result.
 #[repr(C)]
 #[derive(Clone, Copy)]
 pub struct SheetAnswer {
@@ -88,7 +88,7 @@ impl From<Result<Run, BadLine>> for SheetAnswer {
 pub extern "C" fn haldurap_add_list(head: HeadNumbers, numbers: &[u64]) -> ListAnswer
     ensures { result ≡ list_answer (head_from head) numbers.now }
 {
-    ListAnswer::from(add_list::add_list(capi_heads::head_from(head), numbers))
+    ListAnswer::from(add_list::add_list(Head::from(head), numbers))
 }
 
 #[unsafe(no_mangle)]

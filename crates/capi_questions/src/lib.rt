@@ -1,4 +1,6 @@
 // The calls for C, Rust and Python that give grams: totals, kinds, balances, CO2, SO2 and lead. An answer is a number and values.
+// C has no Result and no Kind: so an answer is a number beside values, made by cases; each kind has a call of its own; and a
+// question's run, fuel, quantity and content come one by one.
 #![tactic(auto)]
 
 ghost use Rattle.std.specs.Prelude.{◌≡◌};

@@ -11,7 +11,7 @@ ghost use Rattle.capi_runs.specs.Answers.{order_answer, layout_of};
 
 use capi_answers::RunAnswer;
 use capi_heads::HeadNumbers;
-use inventory::{Record, Run};
+use inventory::{Head, Record, Run};
 
 // The version of the structs' layout, and the size of a run in bytes.
 #[repr(C)]
@@ -35,7 +35,7 @@ pub extern "C" fn haldurap_layout() -> Layout
 pub extern "C" fn haldurap_open(head: HeadNumbers) -> RunAnswer
     ensures { result ≡ run_answer (open_number (head_from head)) (open_run (head_from head)) }
 {
-    RunAnswer::from(recording::open_run(capi_heads::head_from(head)))
+    RunAnswer::from(recording::open_run(Head::from(head)))
 }
 
 #[unsafe(no_mangle)]

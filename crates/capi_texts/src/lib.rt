@@ -10,7 +10,7 @@ use inventory::Run;
 use reporting::SheetText;
 use units::Refusal;
 
-// A number, 0 where it is written, and a length in bytes.
+// A number, 0 where it is written, and a length in bytes: C has no Result, so a match makes a number of each case.
 #[repr(C)]
 #[derive(Clone, Copy)]
 pub struct LengthAnswer {
@@ -33,7 +33,7 @@ impl From<Result<usize, Refusal>> for LengthAnswer {
     }
 }
 
-// A number, 0 where the text is written, its length in bytes, and the sheet's own number and line.
+// A number, 0 where the text is written, its length in bytes, and the sheet's own number and line: C has no Result.
 #[repr(C)]
 #[derive(Clone, Copy)]
 pub struct TextAnswer {

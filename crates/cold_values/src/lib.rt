@@ -28,14 +28,15 @@ const SLOPES: [[u64; 2]; 15] = [
     [14700, 9],
 ];
 
-// The 15 sums with a month whose weight × share is b, at the temperature t.
+// The 15 sums with a month whose weight × share is b, at the temperature t. They go over and back by value: through a `&mut`,
+// which was proved too, the values X of a head took 155 ns in place of 138.
 fn with_month(table: &[[u64; 2]; 15], sums: [u64; 15], b: u64, t: i64) -> [u64; 15]
     requires { (table.now ≡ pairs slopes) × SmallSums sums × (b ≤ 2800000000) × (temperature_ok t ≡ true) }
     ensures { result ≡ tab (with_month sums b t) 15 }
 {
     let mut r = sums;
-    for i in 0..15 {
-        r[i] += b * coldstart::cold_excess(table[i][0], table[i][1], t);
+    for (i, [p, q]) in table.iter().enumerate() {
+        r[i] += b * coldstart::cold_excess(*p, *q, t);
     }
     r
 }
@@ -47,8 +48,8 @@ fn quotients(sums: [u64; 15], weight: u64) -> [u64; 16]
 {
     let half = weight * 500;
     let mut x = [0u64; 16];
-    for i in 0..15 {
-        x[i] = (sums[i] + half) / (half * 2);
+    for (i, sum) in sums.iter().enumerate() {
+        x[i] = (*sum + half) / (half * 2);
     }
     let half = weight * 50000;
     x[15] = (sums[0] * 72 + half) / (half * 2);
@@ -74,16 +75,15 @@ fn values_of(table: &[[u64; 2]; 15], l: u64, temps: &[i64; 12], period: Period) 
     let weights = calendar::weights_of(period);
     let months = weights.months;
     let mut sums = [0u64; 15];
-    for k in 0..12 {
+    for (k, t) in temps.iter().enumerate() {
         let weight = months[k];
         // A month outside the period adds nothing.
         if weight == 0 {
             continue;
         }
-        let t = temps[k];
-        let share = coldstart::cold_share(l, t);
+        let share = coldstart::cold_share(l, *t);
         // A local of its own: the prover takes no call that writes the array that it reads.
-        let next = with_month(table, sums, weight * share, t);
+        let next = with_month(table, sums, weight * share, *t);
         sums = next;
     }
     rounded(sums, weights.whole)

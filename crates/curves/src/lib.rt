@@ -22,13 +22,10 @@ pub fn values_of(t: &[[i64; 3]; 5], speeds: Speeds) -> [u64; 15]
     ensures { result ≡ tab (value_at t.now speeds.urban.0 speeds.rural.0 speeds.highway.0) 15 }
 {
     let mut f = [0u64; 15];
-    for q in 0..5 {
-        let a = t[q][0];
-        let b = t[q][1];
-        let c = t[q][2];
-        f[q * 3] = value_at(a, b, c, speeds.urban);
-        f[q * 3 + 1] = value_at(a, b, c, speeds.rural);
-        f[q * 3 + 2] = value_at(a, b, c, speeds.highway);
+    for (q, [a, b, c]) in t.iter().enumerate() {
+        f[q * 3] = value_at(*a, *b, *c, speeds.urban);
+        f[q * 3 + 1] = value_at(*a, *b, *c, speeds.rural);
+        f[q * 3 + 2] = value_at(*a, *b, *c, speeds.highway);
     }
     f
 }

@@ -26,9 +26,6 @@ and_both false b e = let z : ◌≡◌ {A = ℕ} 0 1 = cc in absurd (omega arith
 pub digit_low : (b : ℕ) → b < 48 → is_digit b ≡ false
 digit_low b h = rw (lt-leb 48 b h)
 
-pub digit_high : (b : ℕ) → 57 < b → is_digit b ≡ false
-digit_high b h = rw (le-leb 48 b (omega arith), lt-leb b 57 h)
-
 pub digit_in : (b : ℕ) → 48 ≤ b → b ≤ 57 → is_digit b ≡ true
 digit_in b l h = rw (le-leb 48 b l, le-leb b 57 h)
 

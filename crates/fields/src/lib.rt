@@ -11,6 +11,7 @@ fn behind_spaces(f: &[u8]) -> &[u8]
     ensures { Spaces f.now result.now }
 {
     let mut rest = f;
+    // goes by what is left and counts nothing; std's `trim_ascii_start` would drop other white space too
     while let [b' ', behind @ ..] = rest {
         rest = behind;
     }
@@ -22,14 +23,11 @@ fn behind_spaces(f: &[u8]) -> &[u8]
 fn digits_of(f: &[u8]) -> Option<u32>
     ensures { digits_said result ≡ begun f.now }
 {
-    if f.is_empty() {
-        return None;
-    }
-    if f[0] == b'0' {
-        return (f.len() == 1).then_some(0);
-    }
-    if 9 < f.len() {
-        return None;
+    match f {
+        [] => return None,
+        [b'0', ..] => return (f.len() == 1).then_some(0),
+        _ if 9 < f.len() => return None,
+        _ => {}
     }
     let mut n: u32 = 0;
     for d in f {
@@ -55,13 +53,15 @@ pub fn read_number(f: &[u8]) -> Option<i64>
     ensures { result ≡ parse f.now }
 {
     let f = behind_spaces(f);
-    if f.is_empty() {
-        return None;
+    match f {
+        [] => None,
+        [b'-', behind @ ..] => {
+            let n = digits_of(behind)?;
+            (n != 0).then_some(-i64::from(n))
+        }
+        _ => {
+            let n = digits_of(f)?;
+            Some(i64::from(n))
+        }
     }
-    if f[0] == b'-' {
-        let n = digits_of(&f[1..])?;
-        return (n != 0).then_some(-i64::from(n));
-    }
-    let n = digits_of(f)?;
-    Some(i64::from(n))
 }

@@ -2,7 +2,6 @@
 use Prim.Native.Nat.{ℕ, ◌+◌, ◌*◌, ◌/◌, ◌%◌, ◌<◌}
 use mathlib.Core.Path.{◌≡◌}
 use native.Mathlib.Omega.{arith}
-use Rattle.units.proofs.Tab.{tab_at}
 use Rattle.inventory.specs.declared.Run.{Run}
 use Rattle.inventory.specs.Order.{in_billionths, sum_at, place}
 use Rattle.inventory.specs.Amounts.{sum_amount, total_amount}
@@ -11,7 +10,7 @@ use Rattle.inventory.specs.Printed.{printed_kind, printed_total}
 use Rattle.inventory.proofs.Amounts.{grams_by}
 use Rattle.units.specs.Rounding.{half_up}
 use Rattle.figures.specs.declared.Row.{Row}
-use Rattle.figures.specs.Table.{grams, printed_row, row_at, figures, row_in, row_from}
+use Rattle.figures.specs.Table.{printed_row, row_at, row_from}
 
 -- a row by its five roundings
 pub row_made : (row : Row) (a b c d t : ℕ) → row.urban.0 ≡ half_up a 1000000000 → row.rural.0 ≡ half_up b 1000000000 → row.highway.0 ≡ half_up c 1000000000
@@ -37,8 +36,3 @@ row_from_lem run lim k h =
     let c : place (k / 5) (k % 5) 2 ≡ k * 4 + 2 = omega arith in
     let d : place (k / 5) (k % 5) 3 ≡ k * 4 + 3 = omega arith in
     rw (lim.exact k h, a, b, c, d)
-
--- a row of the table
-pub row_in_lem : (run : Run) (k : ℕ) → k < 15 → row_in (figures run) k ≡ row_at run k
-unfolding figures
-row_in_lem run k h = tab_at _ (row_at run) 15 k h

@@ -1,12 +1,13 @@
 // The printed figures of a run as one table, so that the lines of the report need not take the whole run.
 #![tactic(auto)]
 
-ghost use Rattle.std.specs.Prelude.{◌≡◌};
+ghost use Rattle.std.specs.Prelude.{◌≡◌, ◌<◌};
 ghost use Rattle.inventory.specs.Order.{in_billionths};
 ghost use Rattle.inventory.specs.Limits.{AmountLimits, RunLimits, TotalLimits};
-ghost use Rattle.figures.specs.Table.{row_from, figures};
+ghost use Rattle.figures.specs.Table.{row_from, row_at, figures};
 
 use inventory::{Amount, Run};
+use std::array;
 use units::Grams;
 
 // The printed figures of a fuel and a quantity.
@@ -39,28 +40,27 @@ fn row_from(urban: Amount, rural: Amount, highway: Amount, cold: Amount, total: 
     }
 }
 
+// The row k of a run in order.
+fn row_at(run: &Run, k: usize) -> Row
+    requires { RunLimits run.now × TotalLimits run.now × k < 15 }
+    ensures { result ≡ row_at run.now k }
+{
+    let j = k * 4;
+    row_from(
+        run.sum(j),
+        run.sum(j + 1),
+        run.sum(j + 2),
+        run.sum(j + 3),
+        run.total(k),
+    )
+}
+
 // The printed figures of a run in order.
 pub fn figures_of(run: &Run) -> Figures
     requires { RunLimits run.now × TotalLimits run.now }
     ensures { result ≡ figures run.now }
 {
-    let none = Row {
-        urban: Grams(0),
-        rural: Grams(0),
-        highway: Grams(0),
-        cold: Grams(0),
-        total: Grams(0),
-    };
-    let mut rows = [none; 15];
-    for k in 0..15 {
-        let j = k * 4;
-        rows[k] = row_from(
-            run.sum(j),
-            run.sum(j + 1),
-            run.sum(j + 2),
-            run.sum(j + 3),
-            run.total(k),
-        );
+    Figures {
+        rows: array::from_fn(|k| row_at(run, k)),
     }
-    Figures { rows }
 }

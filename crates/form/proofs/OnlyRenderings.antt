@@ -1,9 +1,9 @@
 -- What is taken is a rendering: fields, lines, sheets. Assumes nothing.
-use Prim.Native.Nat.{ℕ, zero, suc, ◌+◌, ◌≤◌}
+use Prim.Native.Nat.{ℕ, suc, ◌+◌, ◌≤◌}
 use mathlib.Core.Path.{◌≡◌, refl, sym, ap, ◌∙◌}
 use mathlib.Core.List.{List, [], ◌∷◌, ◌++◌, map}
 use mathlib.Core.Bool.{Bool, true, false, cond}
-use Rattle.std.specs.Prelude.{Option, None, Some}
+use Rattle.std.specs.Prelude.{Option, None, Some, option_and_then}
 use native.Mathlib.Omega.{arith}
 use lib.Dec.{eqb}
 use lib.IntN.{ℤ, pos, negsuc}
@@ -23,7 +23,7 @@ use Rattle.inventory.specs.declared.Run.{Run}
 use Rattle.inventory.specs.Opening.{open_number, open_run}
 use Rattle.inventory.specs.Adding.{add_number, add_run}
 use Rattle.lines.specs.Lines.{glue, lines, head_widths, record_widths, total, fields, numbers_in, numbers_of}
-use Rattle.lines.specs.Records.{and_then, counts_of, period_with, head_over, head_with, or_else, head_of, record_with, record_of}
+use Rattle.lines.specs.Records.{counts_of, period_with, head_over, head_with, or_else, head_of, record_with, record_of}
 use Rattle.sheet.specs.Sheet.{Outcome, refused_at, decided, line_number, line_run, from_records, head_number, head_run, from_head, sheet_of}
 use Rattle.form.specs.Rendering.{render_signed, render_line, temperature_in, is_dated, days_of_line, head_numbers, render_head, record_numbers, render_record, render_records, render_sheet}
 use Rattle.form.specs.Claim.{TakenInTurn, StatedForm}
@@ -80,7 +80,7 @@ period_back : (ds : List ℤ) (p : Period) → length ds ≤ 2 → period_with d
 period_back [] p h e = let q : period.Year ≡ p = cc in ap days_of_line q
 period_back (first ∷ []) p h e = let y : ◌≡◌ {A = ℕ} 0 1 = cc in absurd (omega arith)
 period_back (first ∷ last ∷ []) p h e =
-    let a = then_back (count_of first) (λ n. and_then (count_of last) λ m. Some (period.Days (days n m))) p e in
+    let a = then_back (count_of first) (λ n. option_and_then (λ m. Some (period.Days (days n m))) (count_of last)) p e in
     let b = then_back (count_of last) (λ m. Some (period.Days (days a.0 m))) p a.2 in
     let q : period.Days (days a.0 b.0) ≡ p = cc in
     let x : first ≡ pos a.0 = count_is first a.0 a.1 in
@@ -172,7 +172,7 @@ record_back (a ∷ b ∷ c ∷ d ∷ e ∷ f ∷ g ∷ i ∷ j ∷ k ∷ l) h = 
 pub record_only : (line : List ℕ) (rec : Record) → record_of line ≡ Some rec → line ≡ render_record rec
 unfolding record_of render_record record_widths
 record_only line rec e =
-    let q = then_back (and_then (numbers_of record_widths line) counts_of) (λ ns. Some (record_with ns)) rec e in
+    let q = then_back (option_and_then counts_of (numbers_of record_widths line)) (λ ns. Some (record_with ns)) rec e in
     let p = then_back (numbers_of record_widths line) counts_of q.0 q.1 in
     let r : record_with q.0 ≡ rec = cc in
     let z : p.0 ≡ map pos q.0 = counts_are p.0 q.0 p.2 in

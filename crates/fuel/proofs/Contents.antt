@@ -10,7 +10,7 @@ use borrow.Author.Tests.{lt-ltb, le-ltb, ltb-false}
 use Rattle.std.specs.Prelude.{Result, Ok, Err, IsErrAnd}
 use Rattle.units.specs.declared.Refusal.{Refusal}
 use Rattle.units.specs.Grounds.{ground, first_fit}
-use Rattle.units.specs.Refusals.{refusal_number, answer_number}
+use Rattle.units.specs.Refusals.{answer_number}
 use Rattle.units.specs.Rounding.{half_up}
 use Rattle.units.proofs.Grounds.{passed, fit_append}
 use Rattle.units.proofs.Passed.{passed_up}

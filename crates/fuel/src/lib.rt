@@ -44,6 +44,8 @@ impl Formula {
     }
 }
 
+// CO2, SO2 and lead are a call each, as in C: one formula with its own numbers. The fuel is a number, as in other questions.
+
 // CO2 of a fuel; hydrogen per carbon in thousandths.
 pub fn co2(run: &Run, fuel: u64, hydrogen: u64) -> Result<Grams, Refusal>
     ensures { printed_answer result ≡ co2_of run.now fuel hydrogen }

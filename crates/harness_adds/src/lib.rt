@@ -7,7 +7,7 @@ ghost use Rattle.units.specs.Refusals.{answer_number};
 ghost use Rattle.inventory.specs.Opening.{given_run, open_number, open_run};
 ghost use Rattle.harness_lines.specs.Lines.{number_in};
 ghost use Rattle.harness_prints.specs.Prints.{numbers_text};
-ghost use Rattle.harness_records.specs.Records.{head_in, record_in};
+ghost use Rattle.harness_records.specs.Records.{head_in};
 ghost use Rattle.harness_runs.specs.Runs.{set_field};
 ghost use Rattle.harness_adds.specs.Adds.{add_times, last_number, added_run, added_number};
 
@@ -26,7 +26,8 @@ pub fn given(answer: Result<Run, Refusal>) -> Run
     answer.unwrap_or(recording::zeros())
 }
 
-// Adds the record so many times, and gives what the last add gave.
+// Adds the record so many times, and gives what the last add gave. `harness_areas::add_times` is its twin: one function for both
+// would take the add as a closure, and its contract would speak of a chain of states where these two name their runs.
 #[tactic(auto, unfolding(crate::specs::Adds::add_times, crate::specs::Adds::last_number, units::specs::Refusals::answer_number))]
 pub fn add_times(run: &mut Run, rec: Record, times: u64) -> Result<(), Refusal>
     ensures run { run.new ≡ add_times times run.old rec }
@@ -39,6 +40,8 @@ pub fn add_times(run: &mut Run, rec: Record, times: u64) -> Result<(), Refusal>
     last
 }
 
+// The functions below take the output, the run and the line: each program has a state of its own, so no struct holds them.
+//
 // `open L T..`: the run is opened, and the number printed.
 pub fn open<W: Write>(out: &mut W, run: &mut Run, line: &[u8]) -> io::Result<()>
     ensures run { run.new ≡ open_run (head_in line.now) }

@@ -1,10 +1,10 @@
 // What the test programs print of an answer: its number, and what stands behind it.
 #![tactic(auto)]
 
-ghost use Rattle.std.specs.Prelude.{ℕ, List, [], ◌∷◌, ◌++◌, ◌≤◌, OnOk, IfSome, option_map};
+ghost use Rattle.std.specs.Prelude.{ℕ, List, [], ◌∷◌, OnOk};
 ghost use Rattle.std.specs.Io.KnownBytes.{Appends};
 ghost use Rattle.units.specs.Lists.{tab};
-ghost use Rattle.harness_prints.specs.Prints.{numbers_text, float_text};
+ghost use Rattle.harness_prints.specs.Prints.{numbers_text};
 ghost use Rattle.harness_runs.specs.Runs.{field_at};
 ghost use Rattle.harness_answers.specs.Answers.{answer_text, row_text, figure_text, report_text, dots_text};
 
@@ -111,6 +111,8 @@ impl Shown for Option<f64> {
     }
 }
 
+// Printed by calls: an answer, a run and a buffer are types of std and of other crates, so Display would need a struct around each.
+//
 // The number of an answer, and what stands behind it.
 pub fn print_answer<W: Write, T: Shown>(out: &mut W, answer: &Result<T, Refusal>) -> io::Result<()>
     ensures { OnOk result (Appends (W.contents out.old) (W.contents out.new) (answer_text T.given T.refused answer.now)) }

@@ -16,7 +16,7 @@ use std::io;
 use std::io::Write;
 use units::Refusal;
 
-// Adds the record to an area so many times, and gives what the last add gave.
+// Adds the record to an area so many times, and gives what the last add gave; `harness_adds::add_times` says why both stand.
 #[tactic(auto, unfolding(crate::specs::Adds::add_times, crate::specs::Adds::last_number, units::specs::Refusals::answer_number))]
 fn add_times(numbers: &mut [u64], area: u64, rec: Record, times: u64) -> Result<(), Refusal>
     ensures numbers { numbers.new ≡ add_times times numbers.old area rec }
@@ -29,6 +29,8 @@ fn add_times(numbers: &mut [u64], area: u64, rec: Record, times: u64) -> Result<
     last
 }
 
+// The output, the numbers and the line are a program's own, which no struct holds.
+//
 // `open L T..`: the areas are opened, and the number printed.
 pub fn open<W: Write>(out: &mut W, numbers: &mut [u64], line: &[u8]) -> io::Result<()>
     ensures numbers { numbers.new ≡ open_areas_numbers numbers.old (head_in line.now) }

@@ -1,5 +1,5 @@
 -- The two parts of a text, by the place that a search found, and its lines one by one. Assumes nothing.
-use Rattle.std.proofs.Common.{◌≡◌, ℕ, ◌+◌, ◌-◌, ◌≤◌, ◌==◌, Bool, true, false, ltb, Option, Some, None, List, [], ◌∷◌, ◌<◌, length, take, drop, refl, arith}
+use Rattle.std.proofs.Common.{◌≡◌, ℕ, ◌+◌, ◌-◌, ◌≤◌, ◌==◌, Bool, true, false, ltb, Some, None, List, [], ◌∷◌, ◌<◌, length, take, drop, refl, arith}
 use Rattle.std.specs.List.{position, position_or_len, before_first, after_first, slice_split}
 use Rattle.std.proofs.lemmas.List.Sums.{prefix_len-le-length}
 use Rattle.std.proofs.lemmas.List.Splits.{slice_split-cons_no, slice_split_first, length-slice_split}

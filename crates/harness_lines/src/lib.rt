@@ -27,6 +27,8 @@ pub fn split(text: &[u8], c: u8) -> (&[u8], &[u8])
     }
 }
 
+// `word`, `number` and `signed` take a line and a word's number: a struct of the two would be made for one call.
+//
 // The line from its word k on; the first is word 0.
 #[tactic(auto, unfolding(crate::specs::Lines::word_in))]
 pub fn word(line: &[u8], k: u64) -> &[u8]

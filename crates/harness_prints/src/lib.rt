@@ -54,10 +54,8 @@ fn print_whole<W: Write>(out: &mut W, x: f64) -> io::Result<()>
 pub fn print_float<W: Write>(out: &mut W, x: f64) -> io::Result<()>
     ensures { OnOk result (Appends (W.contents out.old) (W.contents out.new) (float_text x)) }
 {
-    if x > -1.0 {
-        if x < 18446744073709551616.0 {
-            return print_whole(out, x);
-        }
+    if x > -1.0 && x < 18446744073709551616.0 {
+        return print_whole(out, x);
     }
     out.write_all(b".")
 }

@@ -7,18 +7,14 @@ ghost use Rattle.harness_records.specs.Records.{temperature_in, head_in, record_
 
 use harness_lines::{number, signed};
 use inventory::{Head, Record, Shares};
+use std::array;
 use units::{Speed, Speeds};
 
 // The twelve temperatures of a line.
-#[tactic(auto, using(units::proofs::Tab::filled))]
 fn temperatures(line: &[u8]) -> [i64; 12]
     ensures { result ≡ tab (temperature_in line.now) 12 }
 {
-    let mut temps = [0; 12];
-    for k in 0..12 {
-        temps[k] = signed(line, k as u64 + 2);
-    }
-    temps
+    array::from_fn(|k| signed(line, k as u64 + 2))
 }
 
 // The head of a line: the trip length, twelve temperatures, and the first and the last day, 0 and 0 without dates.

@@ -8,6 +8,8 @@ ghost use Rattle.harness_runs.specs.Runs.{set_field, field_at};
 use inventory::{Amount, Kind, Run};
 use units::{Grams, VehicleKm};
 
+// Here and in `set_field` and `field_at` numbers choose: the lines of standard input and the expected answers are of numbers.
+//
 // The kind of a number, which a line of standard input holds.
 pub fn kind_of(n: u64) -> Kind
     ensures { kind_place result ≡ min n 3 }

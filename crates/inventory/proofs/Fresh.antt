@@ -1,9 +1,10 @@
 -- A run without records: its sums and kilometres are 0, and it is in order under a head that opening takes. Assumes nothing.
 use mathlib.Core.Path.{◌≡◌, refl, ap, subst}
-use mathlib.Core.Bool.{true}
+use mathlib.Core.Bool.{Bool, true, false, cond}
 use mathlib.Core.List.{List}
 use Prim.Native.Nat.{ℕ, ◌≤◌, ◌<◌}
 use native.Mathlib.Omega.{arith}
+use lib.Dec.{eqb}
 use Rattle.units.specs.Lists.{tab}
 use Rattle.units.proofs.Tab.{tab_at}
 use Rattle.classes.specs.Classes.{x_count}
@@ -14,7 +15,7 @@ use Rattle.inventory.specs.declared.Run.{Run}
 use Rattle.inventory.specs.Limits.{XLimits}
 use Rattle.inventory.specs.Order.{grams_in, rest_in, km_in, sum_at, exact_total, total_ok, in_order}
 use Rattle.inventory.specs.Adding.{billionths, total_made, with_totals}
-use Rattle.inventory.specs.Opening.{no_km, no_grams, no_rest, empty_run, fresh_run, open_number, open_run}
+use Rattle.inventory.specs.Opening.{no_km, no_grams, no_rest, empty_run, zero_run, fresh_run, open_number, open_run}
 use Rattle.inventory.proofs.Records.{climate, period_taken}
 use Rattle.inventory.proofs.Order.{order_by}
 use Rattle.inventory.proofs.Stored.{total_kept}
@@ -47,6 +48,15 @@ module _ (trip : ℕ) (xs : List ℕ) where
   empty_order low high x =
       order_by (empty_run trip xs) low high (omega arith) x (λ j h. omega (arith, empty_rest j h)) (λ j h. omega (arith, empty_sum j h))
       (λ f h. omega (arith, empty_km f h)) empty-total
+
+-- and so are those of the run that opening gives
+pub opened_totals : (head : Head) → with_totals (open_run head) ≡ open_run head
+unfolding open_run fresh_run zero_run
+opened_totals head = by (eqb (open_number head) 0)
+  where
+    by : (b : Bool) → with_totals (cond b (fresh_run head) zero_run) ≡ cond b (fresh_run head) zero_run
+    by true = empty_totals head.trip _
+    by false = empty_totals 0 _
 
 module _ (head : Head) (taken : open_number head ≡ 0) where
   pub opened_is : open_run head ≡ fresh_run head

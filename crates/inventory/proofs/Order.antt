@@ -4,10 +4,10 @@ use mathlib.Core.Bool.{Bool, true, false, not, ◌&&◌}
 use Prim.Native.Nat.{ℕ, ◌+◌, ◌*◌, ◌/◌, ◌%◌, ◌<◌, ◌≤◌}
 use native.Mathlib.Omega.{arith}
 use lib.Dec.{leb, ltb, eqb}
-use borrow.Author.Tests.{le-leb, lt-leb, leb-true, ltb-true, lt-ltb, le-ltb, eq-eqb, ne_eqb, eqb-true, not-true}
+use borrow.Author.Tests.{le-leb, leb-true, ltb-true, lt-ltb, eq-eqb, ne_eqb, eqb-true, not-true}
 use Rattle.units.specs.Lists.{all_below}
 use Rattle.units.specs.Grounds.{outside}
-use Rattle.units.proofs.Tests.{and_false, and_left, and_right, at, all, inside, inside_low, inside_high}
+use Rattle.units.proofs.Tests.{and_left, and_right, at, all, inside, inside_low, inside_high}
 use Rattle.classes.specs.Classes.{x_count}
 use Rattle.inventory.specs.declared.Run.{Run}
 use Rattle.inventory.specs.Order.{grams_in, rest_in, km_in, sum_at, place, exact_total, x_ok, sum_within, sum_ok, km_ok, is_amount, total_ok, sums_ok, in_order}
@@ -18,14 +18,6 @@ use Rattle.inventory.specs.Limits.{XLimits, RunLimits, TotalLimits}
 pub sum_good : (limit g r : ℕ) → r < 1000000000 → g * 1000000000 + r ≤ limit * 1000000000 → sum_within limit g r ≡ true
 unfolding sum_within
 sum_good limit g r a b = rw (lt-ltb r 1000000000 a, le-leb (g * 1000000000 + r) (limit * 1000000000) b)
-
-pub rest_big : (limit g r : ℕ) → 1000000000 ≤ r → sum_within limit g r ≡ false
-unfolding sum_within
-rest_big limit g r a = rw (le-ltb r 1000000000 a)
-
-pub sum_over : (limit g r : ℕ) → limit * 1000000000 < g * 1000000000 + r → sum_within limit g r ≡ false
-unfolding sum_within
-sum_over limit g r a = rw (lt-leb (g * 1000000000 + r) (limit * 1000000000) a) (and_false (ltb r 1000000000))
 
 -- ---- one total
 
@@ -65,27 +57,6 @@ abbrev to_sums : Run → Bool
 to_sums run = to_count run && sums_ok run
 
 module _ (run : Run) where
-  pub bad_trip : outside 10 200 run.trip ≡ true → false ≡ in_order run
-  unfolding in_order
-  bad_trip h = rw h
-
-  pub bad_x : all_below (x_ok run) x_count ≡ false → false ≡ in_order run
-  unfolding in_order
-  bad_x h = rw (h, and_false (to_trip run))
-
-  pub bad_count : 5000 < run.count → false ≡ in_order run
-  unfolding in_order
-  bad_count h = rw (lt-leb run.count 5000 h, and_false (to_x run))
-
-  pub bad_sum : sums_ok run ≡ false → false ≡ in_order run
-  unfolding in_order
-  bad_sum h = rw (h, and_false (to_count run))
-
-  pub last_test : outside 10 200 run.trip ≡ false → all_below (x_ok run) x_count ≡ true → run.count ≤ 5000 → sums_ok run ≡ true
-      → all_below (km_ok run) 3 ≡ in_order run
-  unfolding in_order
-  last_test a b d e = rw (a, b, le-leb run.count 5000 d, e)
-
   -- the sums of a run whose sums passed
   module _ (s : all_below (sum_ok run) 60 ≡ true) where
     pub rest_passed : (j : ℕ) → j < 60 → rest_in run j < 1000000000

@@ -15,28 +15,8 @@ total_amount run k = record { grams = get_or run.total_grams k (record { 0 = 0 }
 
 -- the run with another sum j
 abbrev pub with_sum : Run → ℕ → Amount → Run
-with_sum run j a =
-    record {
-      trip = run.trip;
-      x = run.x;
-      count = run.count;
-      km = run.km;
-      grams = slice_set run.grams j a.grams;
-      rests = slice_set run.rests j a.rest;
-      total_grams = run.total_grams;
-      total_rests = run.total_rests;
-    }
+with_sum run j a = record run { grams = slice_set run.grams j a.grams; rests = slice_set run.rests j a.rest }
 
 -- the run with another stored total k
 abbrev pub with_total : Run → ℕ → Amount → Run
-with_total run k a =
-    record {
-      trip = run.trip;
-      x = run.x;
-      count = run.count;
-      km = run.km;
-      grams = run.grams;
-      rests = run.rests;
-      total_grams = slice_set run.total_grams k a.grams;
-      total_rests = slice_set run.total_rests k a.rest;
-    }
+with_total run k a = record run { total_grams = slice_set run.total_grams k a.grams; total_rests = slice_set run.total_rests k a.rest }

@@ -20,7 +20,7 @@ pub struct Head {
     pub period: Period,
 }
 
-// The percent of the distance on each road.
+// The percent of the distance on each road. Speeds are of the same roads, but in km/h: another type.
 #[repr(C)]
 #[derive(Clone, Copy)]
 pub struct Shares {
@@ -29,7 +29,8 @@ pub struct Shares {
     pub highway: u64,
 }
 
-// A record: class, number of vehicles, km per vehicle, shares and speeds.
+// A record: class, number of vehicles, km per vehicle, shares and speeds. The class is a number, for callers hand over any; one
+// that is none is refused with 3.
 #[repr(C)]
 #[derive(Clone, Copy)]
 pub struct Record {
@@ -50,7 +51,7 @@ pub struct Amount {
 
 // A run: the head's trip length and values X (fuel × 5 + quantity, then CO of class 3), the record count, the kilometres
 // of each fuel, 60 sums (fuel × 20 + quantity × 4 + kind) as whole grams and a rest in billionths, and the exact total of each
-// fuel and quantity (fuel × 5 + quantity) in the same way.
+// fuel and quantity (fuel × 5 + quantity) in the same way. Flat arrays, as C has them; each place below is one comparison.
 #[repr(C)]
 #[derive(Clone, Copy)]
 pub struct Run {

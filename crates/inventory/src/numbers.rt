@@ -23,7 +23,7 @@ pub trait RunNumbers {
     fn count(&self) -> u64
         ensures { result ≡ (run self.now).count };
 
-    // The kilometres of a fuel.
+    // The kilometres of a fuel, by its place in the run.
     fn km(&self, fuel: usize) -> VehicleKm
         requires { fuel < 3 }
         ensures { result ≡ get_or (run self.now).km fuel (record { 0 = 0 }) };

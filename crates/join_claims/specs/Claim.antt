@@ -1,5 +1,5 @@
 -- SPECIFICATION, "Joining" (document 02, job 6), as statements over the functions on the right of ≡ in the call's contract.
--- `Shaped` says that the arrays of a run have their lengths, as every run of the type has (`run_shape`).
+-- `Shaped` says that the arrays of a run have their lengths, as every run of the type has (`Run::shaped`, crate inventory).
 -- Assumes nothing.
 use Rattle.std.specs.Prelude.{ℕ, suc, ◌+◌, ◌≤◌, ◌<◌, ◌≡◌, true, not, cond, ◌||◌, List, ltb}
 use Rattle.units.specs.Lists.{sum_to}

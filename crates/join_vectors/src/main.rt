@@ -8,12 +8,9 @@ use inventory::Run;
 use std::io;
 use std::io::{Read, Write};
 
-// The run k of eight, that of zeros beyond them.
+// The run of the number that a line names, that of zeros beyond the eight.
 fn run_at(runs: &[Run], k: u64) -> Run {
-    if k < 8 && runs.len() == 8 {
-        return runs[k as usize];
-    }
-    recording::zeros()
+    runs.get(k as usize).copied().unwrap_or(recording::zeros())
 }
 
 // What a line does to its run, or asks of it.
@@ -74,8 +71,8 @@ fn case(out: &mut impl Write, line: &[u8], runs: &mut [Run], areas: &mut [u64]) 
     let k = number(line, 1);
     let mut run = run_at(runs, k);
     change(out, line, &mut run, runs, areas)?;
-    if k < 8 && runs.len() == 8 {
-        runs[k as usize] = run;
+    if let Some(old) = runs.get_mut(k as usize) {
+        *old = run;
     }
     out.write_all(b"\n")
 }

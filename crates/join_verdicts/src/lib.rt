@@ -13,10 +13,7 @@ use units::Refusal;
 pub fn join_verdict(a: &Run, b: &Run) -> Result<(), Refusal>
     ensures { answer_number result ≡ join_number a.now b.now }
 {
-    if !order::in_order(a) {
-        return Err(Refusal::RunOrder);
-    }
-    if !order::in_order(b) {
+    if !order::in_order(a) || !order::in_order(b) {
         return Err(Refusal::RunOrder);
     }
     if !order::same_head(a, b) {

@@ -2,16 +2,14 @@
 use mathlib.Core.Path.{◌≡◌, refl, ap, ◌∙◌}
 use Prim.Native.Nat.{ℕ, ◌+◌, ◌/◌, ◌%◌, ◌≤◌, ◌<◌}
 use native.Mathlib.Omega.{arith}
-use lib.ListN.{set, get_or}
-use Rattle.units.specs.Lists.{tab}
+use lib.ListN.{set}
 use Rattle.units.proofs.Between.{Between, between_none, between_more, between}
 use Rattle.inventory.specs.declared.Amount.{Amount}
 use Rattle.inventory.specs.declared.Run.{Run}
 use Rattle.inventory.specs.Amounts.{sum_amount, total_amount, with_sum, with_total}
 use Rattle.inventory.specs.Order.{in_billionths, sum_at, km_in, exact_total, stored_total}
-use Rattle.inventory.specs.Limits.{RunLimits, TotalLimits, AmountLimits, Shaped}
+use Rattle.inventory.specs.Limits.{TotalLimits, Shaped}
 use Rattle.inventory.specs.Adding.{billionths, total_made, total_grams_made, total_rest_made, with_totals}
-use Rattle.inventory.proofs.Amounts.{sum_limits, total_limits}
 use Rattle.inventory.proofs.Runs.{by_parts}
 use Rattle.joins.specs.Joining.{slot_joined, grams_joined, rest_joined, km_joined, added_up, joined}
 use Rattle.joins.proofs.Laws.{exact_in_lem}
@@ -50,14 +48,8 @@ module _ (a b : Run) where
     unfolding sum_at
     sum_above = rw (i.grams.above j (omega arith), i.rests.above j (omega arith))
 
-    pub sum_bounded : RunLimits a → j < 60 → AmountLimits (sum_amount now j)
-    sum_bounded lim h = let l = sum_limits a lim j h in record { grams = rw (i.grams.above j (omega arith)) l.grams; rest = rw (i.rests.above j (omega arith)) l.rest }
-
     pub total_above : in_billionths (total_amount now k) ≡ stored_total a k
     total_above = rw (i.total_grams.above k (omega arith), i.total_rests.above k (omega arith))
-
-    pub total_bounded : TotalLimits a → k < 15 → AmountLimits (total_amount now k)
-    total_bounded lim h = let l = total_limits a lim k h in record { grams = rw (i.total_grams.above k (omega arith)) l.grams; rest = rw (i.total_rests.above k (omega arith)) l.rest }
 
     -- one place more
     pub km_more : fuel < 3 → AddedUp a b (fuel + 1) j k (record now { km = set now.km fuel (record { 0 = km_in now fuel + km_in b fuel }) })

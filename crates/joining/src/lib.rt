@@ -7,7 +7,7 @@ ghost use Rattle.inventory.specs.Limits.{RunLimits, TotalLimits};
 ghost use Rattle.joins.specs.Joining.{join_number, joined, join_run};
 
 use inventory::Run;
-use units::{Refusal, VehicleKm};
+use units::Refusal;
 
 // Adds up the parts of two runs in order.
 fn add_up(run: &mut Run, other: &Run)
@@ -17,9 +17,10 @@ fn add_up(run: &mut Run, other: &Run)
 {
     run.shaped();
     run.count += other.count;
-    for fuel in 0..3 {
-        run.km[fuel] = VehicleKm(run.km[fuel].0 + other.km[fuel].0);
+    for (fuel, km) in run.km.iter_mut().enumerate() {
+        km.0 += other.km[fuel].0;
     }
+    // by place: grams and rests are arrays of their own
     for j in 0..60 {
         let sum = run_totals::both(run.sum(j), other.sum(j));
         run.set_sum(j, sum);

@@ -8,7 +8,8 @@ ghost use Rattle.kilometres.specs.Parts.{of_km, with_km};
 use inventory::{Record, Run};
 use units::VehicleKm;
 
-// Raises the kilometres of a record's fuel by the record's.
+// Raises the kilometres of a record's fuel by the record's. A Record crosses from C with any numbers, so no type of it carries
+// `RecordLimits`; who calls this has tested them.
 #[tactic(auto, using(crate::proofs::Made::fuel_most), unfolding(inventory::specs::Records::vehicle_km))]
 pub fn add_km(run: &mut Run, rec: Record)
     requires record_limits { RecordLimits rec }

@@ -10,7 +10,7 @@ use borrow.Author.Tests.{eq-eqb, ne_eqb}
 use Rattle.std.specs.Prelude.{Option, Some, None, option_and_then}
 use Rattle.fields.specs.Field.{parse, count_of, count_in}
 use Rattle.lines.specs.Lines.{record_widths, total, shaped, fields, before, numbers_in, numbers_of}
-use Rattle.lines.specs.Records.{and_then, counts_of, record_with, record_of}
+use Rattle.lines.specs.Records.{counts_of, record_with, record_of}
 
 -- ---- one field
 
@@ -34,7 +34,7 @@ unfoldable pub counts_in : List (List ℕ) → Option (List ℕ)
 counts_in [] = Some []
 counts_in (f ∷ fs) = before (count_in f) (counts_in fs)
 
-pub counts_read : (fs : List (List ℕ)) → and_then (numbers_in fs) counts_of ≡ counts_in fs
+pub counts_read : (fs : List (List ℕ)) → option_and_then counts_of (numbers_in fs) ≡ counts_in fs
 unfolding numbers_in counts_of counts_in count_in
 counts_read [] = refl
 counts_read (f ∷ fs) = by (parse f) (numbers_in fs) (counts_read fs)
@@ -43,7 +43,7 @@ counts_read (f ∷ fs) = by (parse f) (numbers_in fs) (counts_read fs)
     none_behind None = refl
     none_behind (Some n) = refl
 
-    by : (a : Option ℤ) (o : Option (List ℤ)) → and_then o counts_of ≡ counts_in fs → and_then (before a o) counts_of ≡ before (option_and_then count_of a) (counts_in fs)
+    by : (a : Option ℤ) (o : Option (List ℤ)) → option_and_then counts_of o ≡ counts_in fs → option_and_then counts_of (before a o) ≡ before (option_and_then count_of a) (counts_in fs)
     by None o e = refl
     by (Some z) None e = none_behind (count_of z) ∙ ap (before (count_of z)) e
     by (Some z) (Some zs) e = ap (before (count_of z)) e
@@ -74,18 +74,18 @@ is_shaped : (line : List ℕ) → length line ≡ 41 → get_or line 40 0 ≡ 10
 unfolding shaped record_widths total
 is_shaped line h lf = rw (eq-eqb (length line) 41 h, eq-eqb (get_or line 40 0) 10 lf)
 
-said_by : (line : List ℕ) → length line ≡ 41 → get_or line 40 0 ≡ 10 → record_of line ≡ and_then (counts_in (fields_from record_widths line 0)) λ ns. Some (record_with ns)
+said_by : (line : List ℕ) → length line ≡ 41 → get_or line 40 0 ≡ 10 → record_of line ≡ option_and_then (λ ns. Some (record_with ns)) (counts_in (fields_from record_widths line 0))
 unfolding record_of numbers_of
 said_by line h lf =
     rw (is_shaped line h lf)
-    (ap (λ (o : Option (List ℕ)). and_then o λ ns. Some (record_with ns))
+    (ap (λ (o : Option (List ℕ)). option_and_then (λ ns. Some (record_with ns)) o)
     (counts_read (fields record_widths line) ∙ ap counts_in (fields_from_lem record_widths line 0)))
 
 -- its nine fields by their places
 pub record_said : (line : List ℕ) → length line ≡ 41 → get_or line 40 0 ≡ 10 → record_of line
-    ≡ and_then (before (count_in (take 2 line)) (before (count_in (take 7 (drop 2 line))) (before (count_in (take 7 (drop 9 line)))
+    ≡ option_and_then (λ ns. Some (record_with ns))
+    (before (count_in (take 2 line)) (before (count_in (take 7 (drop 2 line))) (before (count_in (take 7 (drop 9 line)))
     (before (count_in (take 4 (drop 16 line))) (before (count_in (take 4 (drop 20 line))) (before (count_in (take 4 (drop 24 line)))
     (before (count_in (take 4 (drop 28 line))) (before (count_in (take 4 (drop 32 line))) (before (count_in (take 4 (drop 36 line))) (Some []))))))))))
-    λ ns. Some (record_with ns)
 unfolding fields_from record_widths counts_in
 record_said line h lf = said_by line h lf

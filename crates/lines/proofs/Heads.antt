@@ -8,12 +8,12 @@ use native.Mathlib.Omega.{arith}
 use lib.IntN.{ℤ}
 use lib.ListN.{length, take, drop, set, replicate}
 use lib.Seq.{take-suc-set, append_snoc, take_all}
-use Rattle.std.specs.Prelude.{Option, Some, None}
+use Rattle.std.specs.Prelude.{Option, Some, None, option_and_then}
 use Rattle.calendar.specs.declared.Period.{Period}
 use Rattle.fields.specs.Field.{parse, count_in}
 use Rattle.inventory.specs.declared.Head.{Head}
 use Rattle.lines.specs.Lines.{head_widths, fields, before, numbers_in}
-use Rattle.lines.specs.Records.{and_then, head_over}
+use Rattle.lines.specs.Records.{head_over}
 use Rattle.lines.proofs.Counts.{fields_from, fields_from_lem, number_plus, no_number}
 
 -- what the first j elements of t and then r are
@@ -54,12 +54,12 @@ module _ (s : List ℕ) (t : List ℤ) where
 
 -- ---- L before them
 
-no_trip : (p : Period) (a : Option ℤ) (r : Option (List ℤ)) → ((z : ℤ) → a ≡ Some z → Rattle.fields.specs.Field.count_of z ≡ None) → None ≡ and_then (before a r) (head_over p)
+no_trip : (p : Period) (a : Option ℤ) (r : Option (List ℤ)) → ((z : ℤ) → a ≡ Some z → Rattle.fields.specs.Field.count_of z ≡ None) → None ≡ option_and_then (head_over p) (before a r)
 no_trip p None r h = refl
 no_trip p (Some z) None h = refl
 no_trip p (Some z) (Some ts) h = let e = h z refl in rw e
 
-no_temps : (p : Period) (a : Option ℤ) → None ≡ and_then {B = Head} (before a None) (head_over p)
+no_temps : (p : Period) (a : Option ℤ) → None ≡ option_and_then {U = Head} (head_over p) (before a None)
 no_temps p None = refl
 no_temps p (Some z) = refl
 
@@ -69,12 +69,12 @@ module _ (s : List ℕ) where
   parts = refl
 
   module _ (p : Period) where
-    pub trip_missing : count_in (take 5 s) ≡ None → None ≡ and_then (numbers_in (fields (head_widths false) s)) (head_over p)
+    pub trip_missing : count_in (take 5 s) ≡ None → None ≡ option_and_then (head_over p) (numbers_in (fields (head_widths false) s))
     trip_missing h = rw parts (no_trip p (parse (take 5 s)) (numbers_in (fields (replicate 12 5) (drop 5 s))) (no_number (take 5 s) h))
 
-    pub temps_missing : numbers_in (fields (replicate 12 5) (drop 5 s)) ≡ None → None ≡ and_then (numbers_in (fields (head_widths false) s)) (head_over p)
+    pub temps_missing : numbers_in (fields (replicate 12 5) (drop 5 s)) ≡ None → None ≡ option_and_then (head_over p) (numbers_in (fields (head_widths false) s))
     temps_missing e = rw (parts, e) (no_temps p (parse (take 5 s)))
 
     pub head_there : (trip : ℕ) (temps : List ℤ) → count_in (take 5 s) ≡ Some trip → numbers_in (fields (replicate 12 5) (drop 5 s)) ≡ Some temps
-        → Some (record { trip = trip; temps = temps; period = p }) ≡ and_then (numbers_in (fields (head_widths false) s)) (head_over p)
+        → Some (record { trip = trip; temps = temps; period = p }) ≡ option_and_then (head_over p) (numbers_in (fields (head_widths false) s))
     head_there trip temps h e = rw (parts, number_plus (take 5 s) trip h, e)

@@ -3,7 +3,7 @@ use Prim.Native.Nat.{ℕ, zero, suc, ◌+◌, ◌-◌, ◌≤◌, ◌<◌}
 use mathlib.Core.Path.{◌≡◌, refl, sym, ap, ◌∙◌}
 use mathlib.Core.List.{List, [], ◌∷◌}
 use mathlib.Core.Bool.{Bool, true, false, cond}
-use Rattle.std.specs.Prelude.{Option, None, Some}
+use Rattle.std.specs.Prelude.{Option, None, Some, option_and_then}
 use native.Mathlib.Numerals.{add-one}
 use native.Mathlib.Omega.{arith}
 use lib.Dec.{ltb, eqb}
@@ -15,7 +15,6 @@ use Rattle.units.proofs.Tests.{and_left, and_right}
 use Rattle.fields.proofs.RoundTrip.{lf_bad}
 use Rattle.fields.specs.Field.{parse}
 use Rattle.lines.specs.Lines.{glue, lines, first_of, total, shaped, fields, before, numbers_in, numbers_of}
-use Rattle.lines.specs.Records.{and_then}
 
 -- ---- the first line
 
@@ -89,7 +88,7 @@ before_back (Some z) (Some rest) zs e = (z, rest, refl, refl, cc)
 before_back (Some z) None zs e = absurd (none_some e)
 before_back None b zs e = absurd (none_some e)
 
-pub then_back : {A B : Type 0} (o : Option A) (f : A → Option B) (y : B) → and_then o f ≡ Some y → (x : A) × (o ≡ Some x) × (f x ≡ Some y)
+pub then_back : {A B : Type 0} (o : Option A) (f : A → Option B) (y : B) → option_and_then f o ≡ Some y → (x : A) × (o ≡ Some x) × (f x ≡ Some y)
 then_back None f y e = absurd (none_some e)
 then_back (Some x) f y e = (x, refl, e)
 

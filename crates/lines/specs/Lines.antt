@@ -40,20 +40,16 @@ unfoldable pub fields : List ℕ → List ℕ → List (List ℕ)
 fields [] line = []
 fields (w ∷ ws) line = take w line ∷ fields ws (drop w line)
 
--- what a field says, with its sign
-abbrev pub number_in : List ℕ → Option ℤ
-number_in field = parse field
-
 -- one more where there are some
 abbrev pub before : {A : Type 0} → Option A → Option (List A) → Option (List A)
 before (Some x) (Some xs) = Some (x ∷ xs)
 before (Some x) None = None
 before None xs = None
 
--- the numbers of fields, none where one of them is no number
+-- the numbers of fields, each with its sign, none where one of them is no number
 unfoldable pub numbers_in : List (List ℕ) → Option (List ℤ)
 numbers_in [] = Some []
-numbers_in (f ∷ fs) = before (number_in f) (numbers_in fs)
+numbers_in (f ∷ fs) = before (parse f) (numbers_in fs)
 
 -- the numbers of a line, none where its shape is wrong
 unfoldable pub numbers_of : List ℕ → List ℕ → Option (List ℤ)

@@ -1,16 +1,16 @@
 // The numbers of a line of a sheet: the head of line 1, and the record of any other line.
 #![tactic(auto)]
 
-ghost use Rattle.std.specs.Prelude.{◌≡◌, false, ◌≤◌, length, drop, replicate, option_map};
+ghost use Rattle.std.specs.Prelude.{◌≡◌, false, ◌≤◌, length, drop, replicate, option_and_then, option_map};
 ghost use Rattle.lines.specs.Lines.{lines, first_of, head_widths, fields, numbers_in};
-ghost use Rattle.lines.specs.Records.{and_then, head_over, head_of, record_of};
+ghost use Rattle.lines.specs.Records.{head_over, head_of, record_of};
 ghost use Rattle.lines.specs.Reading.{head_line};
 
 use calendar::{Days, Period};
 use inventory::{Head, Record, Shares};
 use units::{Speed, Speeds};
 
-// A head, and the bytes of its line with LF.
+// A head, and the bytes of its line with LF: a length and not the rest of the text, so that the struct borrows nothing.
 #[derive(Clone, Copy)]
 pub struct HeadLine {
     pub head: Head,
@@ -23,6 +23,7 @@ fn temps_in(s: &[u8]) -> Option<[i64; 12]>
     ensures { result ≡ numbers_in (fields (replicate 12 5) (drop 5 s.now)) }
 {
     let mut temps = [0i64; 12];
+    // by place, as the form of the line has them: chunks would say the place of each once more
     for j in 0..12 {
         let at = 5 * j + 5;
         temps[j] = fields::read_number(&s[at..at + 5])?;
@@ -33,7 +34,7 @@ fn temps_in(s: &[u8]) -> Option<[i64; 12]>
 // The head over a period in the first 65 bytes of a line.
 fn head_over(s: &[u8], period: Period) -> Option<Head>
     requires { 65 ≤ length s.now }
-    ensures { result ≡ and_then (numbers_in (fields (head_widths false) s.now)) (head_over period) }
+    ensures { result ≡ option_and_then (head_over period) (numbers_in (fields (head_widths false) s.now)) }
 {
     let trip = fields::read_count(&s[..5])?;
     let temps = temps_in(s)?;
@@ -55,10 +56,7 @@ pub fn head_line(s: &[u8]) -> Option<HeadLine>
         let head = head_over(s, Period::Year)?;
         return Some(HeadLine { head, size: 66 });
     }
-    if s.len() < 84 {
-        return None;
-    }
-    if s[83] != b'\n' {
+    if s.len() < 84 || s[83] != b'\n' {
         return None;
     }
     let first = fields::read_count(&s[65..74])?;
@@ -72,10 +70,7 @@ pub fn head_line(s: &[u8]) -> Option<HeadLine>
 pub fn record_in(line: &[u8]) -> Option<Record>
     ensures { result ≡ record_of line.now }
 {
-    if line.len() != 41 {
-        return None;
-    }
-    if line[40] != b'\n' {
+    if line.len() != 41 || line[40] != b'\n' {
         return None;
     }
     Some(Record {

@@ -1,13 +1,16 @@
 -- Laws of the lines of a table of figures. Assumes nothing.
 use Prim.Native.Nat.{ℕ, zero, suc, ◌+◌, ◌-◌, ◌*◌, ◌≤◌, ◌<◌}
-use mathlib.Core.Path.{◌≡◌, refl, ap, ◌∙◌}
-use mathlib.Core.List.{[], ◌++◌}
+use mathlib.Core.Path.{◌≡◌, refl, sym, ap, ◌∙◌}
+use mathlib.Core.List.{List, [], ◌++◌}
 use native.Mathlib.Omega.{arith}
+use borrow.Rule.Slice.PartMut.{put_mid}
 use lib.ListN.{length, length-append}
+use lib.Seq.{sets, length-sets}
 use Rattle.figures.specs.declared.Figures.{Figures}
 use Rattle.figures.specs.Table.{row_in}
 use Rattle.report_lines.specs.Line.{line_at}
 use Rattle.report_lines.proofs.Line.{line_most}
+use Rattle.report_lines.proofs.Stores.{sets_append, sets_all, part_back}
 use Rattle.listing.specs.Report.{lines_from, lines_of}
 
 -- the lines from line k on
@@ -37,3 +40,34 @@ lines_most f (suc n) k =
 pub all_most : (f : Figures) → length (lines_of f) ≤ 1455
 unfolding lines_of
 all_most f = lines_most f 15 0
+
+-- lines 0 to k - 1 are written to a report, up to the byte at
+pub record Writing (f : Figures) (k at : ℕ) (report : List ℕ) : Type 0 where
+  pub size : length report ≡ length (lines_of f)
+  pub left : at + length (lines_from f (15 - k) k) ≡ length report
+  pub rest : sets report at (lines_from f (15 - k) k) ≡ lines_of f
+
+pub writing_none : (f : Figures) (report : List ℕ) → length report ≡ length (lines_of f) → Writing f 0 0 report
+writing_none f report h =
+    record { size = h; left = omega (arith, h, ap length (all_lines f)); rest = ap (sets report 0) (all_lines f) ∙ sets_all report (lines_of f) (sym h) }
+
+-- one line more, whose length is n
+module _ {f : Figures} {k at : ℕ} {report : List ℕ} (w : Writing f k at report) (n : ℕ) (h : k < 15) (e : n ≡ length (line_at k (row_in f k))) where
+  pub line_fits : at + n ≤ length report
+  line_fits = omega (arith, w.left, unrolled_length f k h)
+
+  pub line_ends : at + n ≤ 1455
+  line_ends = omega (arith, line_fits, w.size, all_most f)
+
+  pub writing_more : (m : ℕ) (line : List ℕ) → m ≡ n → line ≡ line_at k (row_in f k) → Writing f (k + 1) (at + n) (put_mid at m report line)
+  writing_more m line q d =
+      let put : put_mid at m report line ≡ sets report at (line_at k (row_in f k)) = ap (put_mid at m report) d ∙ part_back at m report (line_at k (row_in f k)) (sym (q ∙ e)) (omega (arith, line_fits)) in
+      let long : length (put_mid at m report line) ≡ length report = ap length put ∙ length-sets report at (line_at k (row_in f k)) in
+      record {
+        size = long ∙ w.size;
+        left = omega (arith, long, w.left, unrolled_length f k h);
+        rest = rw (put, e) (sym (sets_append report at (line_at k (row_in f k)) _) ∙ sym (ap (sets report at) (unroll f k h)) ∙ w.rest);
+      }
+
+pub writing_done : {f : Figures} {k at : ℕ} {report : List ℕ} → Writing f k at report → 15 ≤ k → report ≡ lines_of f
+writing_done w h = rw (no_lines _ _ h) at w.rest

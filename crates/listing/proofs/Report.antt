@@ -2,9 +2,8 @@
 use Prim.Native.Nat.{ℕ, ◌≤◌, ◌<◌}
 use mathlib.Core.Path.{◌≡◌, ap, ◌∙◌}
 use mathlib.Core.Bool.{true, false}
-use mathlib.Core.List.{List}
-use lib.ListN.{length}
-use lib.Seq.{sets}
+use mathlib.Core.List.{List, ◌++◌}
+use lib.ListN.{length, drop}
 use borrow.Author.Tests.{lt-ltb, le-ltb}
 use Rattle.units.specs.Grounds.{first_fit}
 use Rattle.units.specs.Refusals.{refusal_number}
@@ -15,7 +14,6 @@ use Rattle.figures.specs.declared.Figures.{Figures}
 use Rattle.figures.specs.Table.{figures}
 use Rattle.std.specs.Prelude.{Ok, Err}
 use Rattle.listing.specs.Report.{lines_of, report_bytes, report_grounds, reported_answer, report_number, report_of, written, report_buffer}
-use Rattle.writing.proofs.Stores.{sets_front}
 use Rattle.listing.proofs.Lines.{all_most}
 
 -- a report has at most 15 lines of 97 bytes
@@ -52,9 +50,9 @@ module _ (run : Run) (b : List ℕ) where
     unfolding reported_answer report_of report_buffer refusal_number
     refused_short h = let z = number_short o (rw length_same at h) in (rw z, rw z)
 
-    pub report_written : (c : List ℕ) → n ≤ length b → c ≡ sets b 0 (lines_of f) → (reported_answer (Ok n) ≡ report_of run b) × (c ≡ report_buffer run b)
+    pub report_written : (c : List ℕ) → n ≤ length b → c ≡ lines_of f ++ drop n b → (reported_answer (Ok n) ≡ report_of run b) × (c ≡ report_buffer run b)
     unfolding reported_answer report_of report_buffer written
     report_written c h w =
         let k : length (report_bytes run) ≤ length b = rw length_same at h in
         let z = number_written o k in
-        (rw (z, length_same), rw z (w ∙ ap (sets b 0) lines_same ∙ sets_front b (report_bytes run) k))
+        (rw (z, length_same), rw z (w ∙ ap (λ (t : List ℕ). t ++ drop n b) lines_same ∙ ap (λ (m : ℕ). report_bytes run ++ drop m b) length_same))

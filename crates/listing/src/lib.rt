@@ -1,8 +1,7 @@
 // The report of a run, written into a lent buffer.
 #![tactic(auto)]
 
-ghost use Rattle.std.specs.Prelude.{◌≡◌, ◌≤◌, length};
-ghost use Rattle.std.proofs.lemmas.List.Edits.{sets};
+ghost use Rattle.std.specs.Prelude.{◌≡◌, length};
 ghost use Rattle.listing.specs.Report.{lines_of, reported_answer, report_of, report_buffer};
 ghost use Rattle.listing.specs.Claim.{WidthClaim};
 
@@ -15,20 +14,22 @@ fn report_length(f: &Figures) -> usize
     ensures { result ≡ length (lines_of f.now) }
 {
     let mut n = 0;
-    for k in 0..15 {
-        n += report_lines::line_length(f.rows[k]);
+    for row in &f.rows {
+        n += report_lines::line_length(*row);
     }
     n
 }
 
-// All lines, from the buffer's start.
-fn lines_at(b: &mut [u8], f: &Figures)
-    requires { length (lines_of f.now) ≤ length b.old }
-    ensures { b.new ≡ sets b.old 0 (lines_of f.now) }
+// All lines, over the bytes that are the report.
+fn write_lines(report: &mut [u8], f: &Figures)
+    requires { length report.old ≡ length (lines_of f.now) }
+    ensures { report.new ≡ lines_of f.now }
 {
     let mut at = 0;
-    for k in 0..15 {
-        at = report_lines::next_line(b, at, k, f.rows[k]);
+    for (k, row) in f.rows.iter().enumerate() {
+        let n = report_lines::line_length(*row);
+        report_lines::write_line(&mut report[at..at + n], k, *row);
+        at += n;
     }
 }
 
@@ -45,7 +46,7 @@ pub fn write_report(run: &Run, buffer: &mut [u8]) -> Result<usize, Refusal>
     if buffer.len() < n {
         return Err(Refusal::ShortBuffer);
     }
-    lines_at(buffer, &f);
+    write_lines(&mut buffer[..n], &f);
     Ok(n)
 }
 

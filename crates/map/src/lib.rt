@@ -11,6 +11,9 @@ ghost use Rattle.map.specs.Map.{row_answer, row_of, row_whole, figure_answer, fi
 use inventory::{Kind, Run};
 use units::{Grams, Refusal};
 
+// Fuel and quantity are numbers, and each is a parameter: callers hand over any, C one by one, and one that is none is refused
+// with 11.
+
 // The printed kinds of one fuel and quantity, in grams.
 #[repr(C)]
 #[derive(Clone, Copy)]
@@ -19,6 +22,20 @@ pub struct Row {
     pub rural: f64,
     pub highway: f64,
     pub cold: f64,
+}
+
+impl Row {
+    // The field of a kind, by cases: a row is four fields, as C has it.
+    fn of(self, kind: Kind) -> f64
+        ensures { result ≡ field_of self kind }
+    {
+        match kind {
+            Kind::Urban => self.urban,
+            Kind::Rural => self.rural,
+            Kind::Highway => self.highway,
+            Kind::Cold => self.cold,
+        }
+    }
 }
 
 // Whole grams as a float, which loses nothing below 2^53.
@@ -37,18 +54,6 @@ fn kind_float(run: &Run, fuel: usize, quantity: usize, kind: Kind) -> f64
 {
     let j = fuel * 20 + quantity * 4 + totals::kind_place(kind);
     exact_float(printed::kind_at(run, j))
-}
-
-// The field of a row for a kind.
-fn field_of(row: Row, kind: Kind) -> f64
-    ensures { result ≡ field_of row kind }
-{
-    match kind {
-        Kind::Urban => row.urban,
-        Kind::Rural => row.rural,
-        Kind::Highway => row.highway,
-        Kind::Cold => row.cold,
-    }
 }
 
 // Whether the figures of a fuel and a quantity are not given: PM of fuels 1 and 3.
@@ -84,7 +89,7 @@ pub fn figure_of(run: &Run, fuel: u64, quantity: u64, kind: Kind) -> Result<Opti
     if not_given(fuel, quantity) {
         return Ok(None);
     }
-    Ok(Some(field_of(row, kind)))
+    Ok(Some(row.of(kind)))
 }
 
 // Does nothing: its contract is that a figure is the row's field.

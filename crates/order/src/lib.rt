@@ -16,6 +16,7 @@ pub fn head_ok<R: RunNumbers>(run: &R) -> bool
     !units::is_outside(10, 200, run.trip()) && (0..16).all(|i| run.x(i) <= 4900000000)
 }
 
+// A RunNumbers may be in no order, so no type carries the count's bound: here, in run_sums and in stored_totals it is one comparison.
 fn kms_ok<R: RunNumbers>(run: &R) -> bool
     requires { (R.run run.now).count ≤ 5000 }
     ensures { result ≡ all_below (km_ok (R.run run.now)) 3 }

@@ -29,7 +29,7 @@ pub fn kind_at(run: &Run, j: usize) -> Grams
     to_grams(run.sum(j))
 }
 
-// The printed total of a run in order, from the stored one; fuel and quantity count from 0.
+// The printed total of a run in order, from the stored one; fuel and quantity are places and count from 0.
 #[tactic(auto, using(inventory::proofs::Amounts::total_limits, crate::proofs::Totals::total_half))]
 pub fn total_at(run: &Run, fuel: usize, quantity: usize) -> Grams
     requires total_limits { TotalLimits run.now }

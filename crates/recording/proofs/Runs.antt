@@ -1,5 +1,5 @@
 -- The number and the run of opening and of an add, from the verdict on the head or the record. Assumes nothing.
-use mathlib.Core.Path.{◌≡◌, refl, sym, ◌∙◌, subst}
+use mathlib.Core.Path.{◌≡◌, refl, sym, ◌∙◌}
 use mathlib.Core.Bool.{Bool, true, false, cond}
 use mathlib.Core.List.{List, []}
 use Prim.Native.Nat.{ℕ, ◌+◌, ◌*◌, ◌/◌, ◌≤◌, ◌<◌}
@@ -28,8 +28,7 @@ use Rattle.inventory.specs.Opening.{empty_run, fresh_run, zero_run, open_number,
 use Rattle.inventory.specs.Adding.{slot_after, km_after, total_made, with_totals, raised, run_with, ordered_grounds, raised_run, add_grounds, add_number, add_run}
 use Rattle.kilometres.specs.Parts.{with_km}
 use Rattle.sums.specs.Parts.{with_sums}
-use Rattle.run_totals.specs.Between.{of_amounts, KeptOutside}
-use Rattle.run_totals.proofs.Totals.{amounts_limits}
+use Rattle.run_totals.specs.Between.{KeptOutside}
 use Rattle.accuracy.specs.Claim.{run_after, EveryList}
 use Rattle.accuracy.proofs.Whole.{every_list}
 

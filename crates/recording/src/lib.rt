@@ -76,6 +76,7 @@ pub fn enter(run: &mut Run, rec: Record)
 }
 
 // Adds a record of a sheet or a list to a run that will be in order once its totals are made, at the end: 3 to 9.
+// A Run crosses from C with any numbers, so no type of it carries what this requires; add_list and sheet ask it of their loops too.
 pub fn add_before_totals(run: &mut Run, rec: Record) -> Result<(), Refusal>
     requires { in_order (with_totals run.old) ≡ true }
     ensures number { answer_number result ≡ first_fit (ordered_grounds run.old.count rec) }

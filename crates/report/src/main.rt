@@ -12,7 +12,8 @@ use std::io::{ErrorKind, Read, Write};
 // So often at most an interrupted call is tried again.
 const TRIES: usize = 1000000;
 
-// Reads until the input ends or the bytes are full; how many came.
+// Reads until the input ends or the bytes are full; how many came. A loop of its own: std's read_to_end needs a Vec, and read_exact
+// does not tell how many came.
 fn read_input<R: Read>(reader: &mut R, input: &mut [u8]) -> io::Result<usize>
     ensures within { IfOk result (λ n. n ≤ length input.new) }
     ensures bytes { IfOk result (λ n. Consumes (R.remaining reader.old) (R.remaining reader.new) (take n input.new)) }
@@ -35,7 +36,8 @@ fn read_input<R: Read>(reader: &mut R, input: &mut [u8]) -> io::Result<usize>
     Ok(n)
 }
 
-// Writes the whole text, or a part before a write that fails or takes no byte.
+// Writes the whole text, or a part before a write that fails or takes no byte. A loop of its own: std's write_all says nothing of
+// what was written before an error.
 fn write_text<W: Write>(writer: &mut W, text: &[u8]) -> io::Result<()>
     ensures whole { OnOk result (Appends (W.contents writer.old) (W.contents writer.new) text.now) }
     ensures part { OnErr result ((n : ℕ) × Appends (W.contents writer.old) (W.contents writer.new) (take n text.now)) }
@@ -57,7 +59,7 @@ fn write_text<W: Write>(writer: &mut W, text: &[u8]) -> io::Result<()>
     Ok(())
 }
 
-// What failed, and why.
+// What failed, and why: one of two errors, and no value beside an error as in a Result.
 #[derive(Clone, Copy)]
 enum Trouble {
     Reading(io::Error),
@@ -70,10 +72,7 @@ fn write_report<W: Write>(writer: &mut W, input: &[u8; 65537], read: usize) -> R
 {
     let mut text = [0u8; 1455];
     let n = input_text::report_input(input, read, &mut text);
-    match write_text(writer, &text[..n]) {
-        Ok(()) => Ok(()),
-        Err(e) => Err(Trouble::Writing(e)),
-    }
+    write_text(writer, &text[..n]).map_err(Trouble::Writing)
 }
 
 // The text of what the reader gives, to the writer.
@@ -81,10 +80,8 @@ fn report<R: Read, W: Write>(reader: &mut R, writer: &mut W) -> Result<(), Troub
     ensures { IfSome (R.remaining reader.old) (λ bytes. Prints (W.contents writer.old) (W.contents writer.new) (sheet_text (take 65537 bytes)) result) }
 {
     let mut input = [0u8; 65537];
-    match read_input(reader, &mut input) {
-        Ok(n) => write_report(writer, &input, n),
-        Err(e) => Err(Trouble::Reading(e)),
-    }
+    let n = read_input(reader, &mut input).map_err(Trouble::Reading)?;
+    write_report(writer, &input, n)
 }
 
 // Says on standard error what failed, and the system's reason without its number.

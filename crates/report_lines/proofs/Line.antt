@@ -2,16 +2,16 @@
 use Prim.Native.Nat.{ℕ, zero, suc, ◌+◌, ◌/◌, ◌%◌, ◌≤◌, ◌<◌}
 use mathlib.Core.Path.{◌≡◌, refl, ap, ◌∙◌}
 use mathlib.Core.Bool.{Bool, true, false, cond}
-use mathlib.Core.List.{List, [], ◌∷◌, ◌++◌}
+use mathlib.Core.List.{List, [], ◌∷◌}
 use native.Mathlib.Omega.{arith}
 use lib.Dec.{eqb}
-use lib.ListN.{length, set}
-use lib.Seq.{sets}
+use borrow.Rule.Slice.PartMut.{put_mid, mid_of}
+use lib.ListN.{length, set, length-append}
 use borrow.Author.Tests.{eq-eqb, ne_eqb}
 use Rattle.text.specs.Render.{render}
 use Rattle.text.proofs.Write.{length_render}
 use Rattle.figures.specs.declared.Row.{Row}
-use Rattle.writing.proofs.Stores.{Wrote, start, more}
+use Rattle.report_lines.proofs.Stores.{Wrote, start, part, number, byte}
 use Rattle.report_lines.specs.Line.{name_of, line_of, line_at}
 
 pub length_name : (quantity : ℕ) → quantity < 5 → length (name_of quantity) ≡ 4
@@ -22,30 +22,32 @@ length_name (suc (suc (suc zero))) h = refl
 length_name (suc (suc (suc (suc zero)))) h = refl
 length_name (suc (suc (suc (suc (suc n))))) h = absurd (omega arith)
 
-figure : {l : List ℕ} {at : ℕ} {u : List ℕ} {k : ℕ} {b c : List ℕ} (n : ℕ)
-    → Wrote l at u k b → c ≡ sets b (at + k) (render 18 n) → Wrote l at (u ++ render 18 n) (k + 18) c
-figure n w e = more (render 18 n) 18 w e (length_render 18 n)
+-- the calls of `write_figures`, one behind the other
+module _ (fuel quantity : ℕ) (row : Row) (b f name urban rural highway cold total : List ℕ) (q : quantity < 5) (h : 97 ≤ length b) where
+  abbrev to_highway : List ℕ
+  to_highway = put_mid 42 18 (put_mid 24 18 (put_mid 6 18 (put_mid 2 4 (put_mid 0 2 b f) name) urban) rural) highway
 
--- the calls of `line_at`, one behind the other
-pub line : (fuel quantity : ℕ) (row : Row) (b b1 b2 b3 b4 b5 b6 b7 : List ℕ) (at : ℕ) → quantity < 5
-    → b1 ≡ sets b at (render 2 fuel) → b2 ≡ sets b1 (at + 2) (name_of quantity)
-    → b3 ≡ sets b2 (at + 6) (render 18 row.urban.0) → b4 ≡ sets b3 (at + 24) (render 18 row.rural.0)
-    → b5 ≡ sets b4 (at + 42) (render 18 row.highway.0) → b6 ≡ sets b5 (at + 60) (render 18 row.cold.0)
-    → b7 ≡ sets b6 (at + 78) (render 18 row.total.0) → Wrote b at (line_of fuel quantity row) 97 (set b7 (at + 96) 10)
-unfolding line_of
-line fuel quantity row b b1 b2 b3 b4 b5 b6 b7 at h e1 e2 e3 e4 e5 e6 e7 =
-    more (10 ∷ []) 1
-    (figure row.total.0
-    (figure row.cold.0
-    (figure row.highway.0
-    (figure row.rural.0
-    (figure row.urban.0
-    (more (name_of quantity) 4 (start b at (render 2 fuel) 2 e1 (length_render 2 fuel)) e2 (length_name quantity h))
-    e3) e4) e5) e6) e7)
-    refl refl
+  pub line : f ≡ render (length (mid_of 0 2 b)) fuel → name ≡ name_of quantity
+      → urban ≡ render (length (mid_of 6 18 (put_mid 2 4 (put_mid 0 2 b f) name))) row.urban.0
+      → rural ≡ render (length (mid_of 24 18 (put_mid 6 18 (put_mid 2 4 (put_mid 0 2 b f) name) urban))) row.rural.0
+      → highway ≡ render (length (mid_of 42 18 (put_mid 24 18 (put_mid 6 18 (put_mid 2 4 (put_mid 0 2 b f) name) urban) rural))) row.highway.0
+      → cold ≡ render (length (mid_of 60 18 to_highway)) row.cold.0 → total ≡ render (length (mid_of 78 18 (put_mid 60 18 to_highway cold))) row.total.0
+      → Wrote b (line_of fuel quantity row) 97 (set (put_mid 78 18 (put_mid 60 18 to_highway cold) total) 96 10)
+  unfolding line_of
+  line e1 e2 e3 e4 e5 e6 e7 =
+      let w1 = number 2 (start b) (omega arith) fuel f e1 in
+      let w2 = part (name_of quantity) 4 w1 (length_name quantity q) (omega arith) name e2 in
+      let w3 = number 18 w2 (omega arith) row.urban.0 urban e3 in
+      let w4 = number 18 w3 (omega arith) row.rural.0 rural e4 in
+      let w5 = number 18 w4 (omega arith) row.highway.0 highway e5 in
+      let w6 = number 18 w5 (omega arith) row.cold.0 cold e6 in
+      let w7 = number 18 w6 (omega arith) row.total.0 total e7 in
+      byte 10 w7 (omega arith)
 
 pub length_line : (fuel quantity : ℕ) (row : Row) → quantity < 5 → length (line_of fuel quantity row) ≡ 97
-length_line fuel quantity row h = (line fuel quantity row [] _ _ _ _ _ _ _ 0 h refl refl refl refl refl refl refl).long
+unfolding line_of
+length_line fuel quantity row h =
+    simp (length-append, length_render, length_name quantity h) (omega arith)
 
 -- the two cases of a line
 pub left_out : (k : ℕ) (row : Row) → row.total.0 ≡ 0 → line_at k row ≡ []
@@ -58,6 +60,10 @@ printed k row e = simp (ne_eqb row.total.0 0 e)
 
 pub length_printed : (k : ℕ) (row : Row) → (row.total.0 ≡ 0 → ⊥) → length (line_at k row) ≡ 97
 length_printed k row e = ap length (printed k row e) ∙ length_line (k / 5 + 1) (k % 5) row (omega arith)
+
+pub no_byte : (l : List ℕ) → length l ≡ 0 → l ≡ []
+no_byte [] h = refl
+no_byte (x ∷ l) h = absurd (omega arith)
 
 -- a line or none
 length_cond : (b : Bool) (u : List ℕ) → length u ≡ 97 → length (cond b [] u) ≤ 97

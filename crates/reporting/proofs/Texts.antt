@@ -1,11 +1,12 @@
 -- A text in a lent buffer, and the text of a sheet, case by case. Assumes nothing.
 use mathlib.Core.Path.{◌≡◌, refl, ap, ◌∙◌}
 use mathlib.Core.Bool.{true, false}
-use mathlib.Core.List.{List, [], ◌∷◌}
+use mathlib.Core.List.{List, ◌++◌}
 use Prim.Native.Nat.{ℕ, ◌≤◌, ◌<◌}
 use lib.Dec.{eqb}
-use lib.ListN.{length, set}
-use lib.Seq.{sets}
+use borrow.Rule.Slice.PartMut.{put_mid, mid_of}
+use native.Mathlib.Omega.{arith}
+use lib.ListN.{length, drop, set, length-append}
 use borrow.Author.Tests.{lt-ltb, le-ltb}
 use Rattle.units.specs.declared.Refusal.TheVariants.{ShortBuffer}
 use Rattle.units.specs.Grounds.{first_fit}
@@ -17,7 +18,7 @@ use Rattle.inventory.specs.Order.{in_order}
 use Rattle.std.specs.Prelude.{Result, Ok, Err}
 use Rattle.units.specs.declared.Refusal.{Refusal}
 use Rattle.listing.specs.Report.{report_bytes, report_grounds, report_number, report_of, written, report_buffer, reported_answer}
-use Rattle.writing.proofs.Stores.{Wrote, start, more, sets_front}
+use Rattle.report_lines.proofs.Stores.{Wrote, start, part, number, byte}
 use Rattle.sheet.specs.Sheet.{sheet_number, sheet_line, sheet_run}
 use Rattle.form.proofs.Form.{whole}
 use Rattle.reporting.specs.Reporting.{text_number, text_line, refused_word, refused_line, sheet_text, text_grounds, answer_for, placed, text_of, text_buffer}
@@ -29,23 +30,26 @@ module _ (t b : List ℕ) where
   unfolding reported_answer refusal_number answer_for placed text_grounds first_fit
   no_room h = (rw (lt-ltb (length b) (length t) h), rw (lt-ltb (length b) (length t) h))
 
-  pub room : (n : ℕ) (after : List ℕ) → length t ≤ length b → n ≡ length t → after ≡ sets b 0 t
+  pub room : (n : ℕ) (after : List ℕ) → length t ≤ length b → n ≡ length t → after ≡ t ++ drop (length t) b
       → (reported_answer (Ok n) ≡ answer_for t b) × (after ≡ placed t b)
   unfolding reported_answer answer_for placed written text_grounds first_fit
-  room n after h e s = (rw (le-ltb (length b) (length t) h, e), rw (le-ltb (length b) (length t) h) (s ∙ sets_front b t h))
+  room n after h e s = (rw (le-ltb (length b) (length t) h, e), rw (le-ltb (length b) (length t) h) s)
 
 -- ---- the line of a refused sheet
 
-pub refused_wrote : (number line : ℕ) (b b1 b2 b3 : List ℕ) → b1 ≡ sets b 0 refused_word → b2 ≡ sets b1 7 (render 3 number) → b3 ≡ sets b2 10 (render 6 line)
-    → Wrote b 0 (refused_line number line) 17 (set b3 16 10)
+pub refused_wrote : (n line : ℕ) (b word f g : List ℕ) → 17 ≤ length b → word ≡ refused_word → f ≡ render (length (mid_of 7 3 (put_mid 0 7 b word))) n
+    → g ≡ render (length (mid_of 10 6 (put_mid 7 3 (put_mid 0 7 b word) f))) line
+    → Wrote b (refused_line n line) 17 (set (put_mid 10 6 (put_mid 7 3 (put_mid 0 7 b word) f) g) 16 10)
 unfolding refused_line
-refused_wrote number line b b1 b2 b3 e1 e2 e3 =
-    more (10 ∷ []) 1
-    (more (render 6 line) 6 (more (render 3 number) 3 (start b 0 refused_word 7 e1 refl) e2 (length_render 3 number)) e3 (length_render 6 line))
-    refl refl
+refused_wrote n line b word f g h e1 e2 e3 =
+    let w1 = part refused_word 7 (start b) refl (omega arith) word e1 in
+    let w2 = number 3 w1 (omega arith) n f e2 in
+    let w3 = number 6 w2 (omega arith) line g e3 in
+    byte 10 w3 (omega arith)
 
-pub refused_length : (number line : ℕ) → length (refused_line number line) ≡ 17
-refused_length number line = (refused_wrote number line [] _ _ _ refl refl refl).long
+pub refused_length : (n line : ℕ) → length (refused_line n line) ≡ 17
+unfolding refused_line
+refused_length n line = simp (length-append, length_render) (omega arith)
 
 -- ---- the text of a sheet
 

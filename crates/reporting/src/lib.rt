@@ -2,6 +2,7 @@
 #![tactic(auto)]
 
 ghost use Rattle.std.specs.Prelude.{◌≡◌};
+ghost use Rattle.units.specs.Refusals.{refusal_number};
 ghost use Rattle.listing.specs.Report.{reported_answer};
 ghost use Rattle.reporting.specs.Reporting.{refused_line, placed, answer_for, bad_number, bad_line, text_number, text_line, text_of, text_buffer};
 
@@ -16,16 +17,16 @@ pub struct SheetText {
 }
 
 // The line of a refused sheet in a lent buffer.
-fn write_refused(buffer: &mut [u8], number: u64, line: u64) -> Result<usize, Refusal>
-    ensures answer { reported_answer result ≡ answer_for (refused_line number line) buffer.old }
-    ensures bytes { buffer.new ≡ placed (refused_line number line) buffer.old }
+fn write_refused(buffer: &mut [u8], bad: BadLine) -> Result<usize, Refusal>
+    ensures answer { reported_answer result ≡ answer_for (refused_line (refusal_number bad.reason) bad.line) buffer.old }
+    ensures bytes { buffer.new ≡ placed (refused_line (refusal_number bad.reason) bad.line) buffer.old }
 {
     if buffer.len() < 17 {
         return Err(Refusal::ShortBuffer);
     }
-    writing::bytes_at(buffer, 0, b"REFUSED");
-    writing::number_at(buffer, 7, 3, number);
-    writing::number_at(buffer, 10, 6, line);
+    buffer[0..7].copy_from_slice(b"REFUSED");
+    text::write_number(&mut buffer[7..10], units::refusal_number(bad.reason));
+    text::write_number(&mut buffer[10..16], bad.line as u64);
     buffer[16] = b'\n';
     Ok(17)
 }
@@ -38,12 +39,13 @@ pub fn report_sheet(text: &[u8], buffer: &mut [u8]) -> SheetText
     ensures bytes { buffer.new ≡ text_buffer text.now buffer.old }
 {
     if 65536 < text.len() {
+        let long = BadLine {
+            reason: Refusal::LineShape,
+            line: 1,
+        };
         return SheetText {
-            text: write_refused(buffer, 10, 1),
-            sheet: Err(BadLine {
-                reason: Refusal::LineShape,
-                line: 1,
-            }),
+            text: write_refused(buffer, long),
+            sheet: Err(long),
         };
     }
     match sheet::read_sheet(text) {
@@ -52,7 +54,7 @@ pub fn report_sheet(text: &[u8], buffer: &mut [u8]) -> SheetText
             sheet: Ok(()),
         },
         Err(bad) => SheetText {
-            text: write_refused(buffer, units::refusal_number(bad.reason), bad.line as u64),
+            text: write_refused(buffer, bad),
             sheet: Err(bad),
         },
     }

@@ -1,13 +1,14 @@
 -- Sums whose grams and rests are small under `or`, and totals. Assumes nothing.
 use mathlib.Core.Path.{◌≡◌, sym}
 use mathlib.Core.Logic.{⊎_elim}
-use mathlib.Core.Bool.{Bool, true, false}
+use mathlib.Core.Bool.{true}
 use Prim.Native.Nat.{ℕ, ◌+◌, ◌*◌, ◌/◌, ◌%◌, ◌<◌, ◌≤◌}
 use native.Mathlib.Nat.{eq-or-lt_of_le}
 use native.Mathlib.Omega.{arith}
 use lib.Bits.{bit_or, or_add_and, and_le_r, or_comm}
 use Rattle.units.specs.Lists.{all_below}
 use Rattle.units.proofs.Tests.{all}
+use Rattle.inventory.specs.declared.Amount.{Amount}
 use Rattle.inventory.specs.declared.Run.{Run}
 use Rattle.inventory.specs.Order.{grams_in, rest_in, sum_at, place, exact_total, total_grams_in, total_rest_in, sum_ok, total_ok, sums_ok}
 use Rattle.inventory.proofs.Order.{sum_good, amount_good}
@@ -19,21 +20,27 @@ le_or_l a b = omega (arith, or_add_and a b, and_le_r a b)
 le_or_r : (a b : ℕ) → b ≤ bit_or a b
 le_or_r a b = rw (or_comm a b) (le_or_l b a)
 
--- below k each has a value that is at most `bits`, which a loop makes of them by `or`
-abbrev Some_within : (ℕ → ℕ → Type 0) → ℕ → ℕ → Type 0
-Some_within P k bits = (i : ℕ) → i < k → (x : ℕ) × P i x × (x ≤ bits)
+-- below k each has an amount with at most so many grams and such a rest, which a loop makes of them by `or`
+abbrev pub Some_within : (ℕ → Amount → Type 0) → ℕ → ℕ → ℕ → Type 0
+Some_within P k grams rest = (i : ℕ) → i < k → (a : Amount) × P i a × (a.grams.0 ≤ grams) × (a.rest ≤ rest)
 
-pub or_more : (P : ℕ → ℕ → Type 0) (k bits y : ℕ) → Some_within P k bits → P k y → Some_within P (k + 1) (bit_or bits y)
-or_more P k bits y u p i l =
-    ⊎_elim (λ (q : i ≡ k). rw q (y, p, le_or_r bits y)) (λ (q : i < k). let v = u i q in (v.0, v.1, omega (arith, v.2, le_or_l bits y)))
+pub or_more : (P : ℕ → Amount → Type 0) (k grams rest : ℕ) (y : Amount) → Some_within P k grams rest → P k y
+    → Some_within P (k + 1) (bit_or grams y.grams.0) (bit_or rest y.rest)
+or_more P k grams rest y u p i l =
+    ⊎_elim (λ (q : i ≡ k). rw q (y, p, le_or_r grams y.grams.0, le_or_r rest y.rest))
+    (λ (q : i < k). let v = u i q in (v.0, v.1, omega (arith, v.2, le_or_l grams y.grams.0), omega (arith, v.3, le_or_l rest y.rest)))
     (eq-or-lt_of_le (omega arith))
 
 -- f 0, .., f (k - 1) are at most `any`
 abbrev pub Within : (ℕ → ℕ) → ℕ → ℕ → Type 0
 Within f k any = (j : ℕ) → j < k → f j ≤ any
 
-pub within : (f : ℕ → ℕ) (P : ℕ → ℕ → Type 0) (k bits : ℕ) → ((i x : ℕ) → P i x → x ≡ f i) → Some_within P k bits → Within f k bits
-within f P k bits e u j l = let v = u j l in omega (arith, v.2, e j v.0 v.1)
+pub within : (f g : ℕ → ℕ) (P : ℕ → Amount → Type 0) (k : ℕ) (any : Amount) → ((i : ℕ) (a : Amount) → P i a → (a.grams.0 ≡ f i) × (a.rest ≡ g i))
+    → Some_within P k any.grams.0 any.rest → Within f k any.grams.0 × Within g k any.rest
+within f g P k any e u = (
+  (λ j l. let v = u j l in omega (arith, v.2, e j v.0 v.1)),
+  (λ j l. let v = u j l in omega (arith, v.3, e j v.0 v.1)),
+)
 
 module _ (run : Run) (grams : ℕ) (u : Within (grams_in run) 60 grams) where
   -- the grams are below the limit together, and every mark below 2^29

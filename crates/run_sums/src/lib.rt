@@ -20,7 +20,7 @@ pub fn sum_ok(limit: Grams, a: Amount) -> bool
     a.grams.0 < limit.0 || a.grams.0 == limit.0 && a.rest == 0
 }
 
-// Whether the sums are in order, sum by sum.
+// Whether the sums are in order, sum by sum. What it requires is one comparison: a RunNumbers may be in no order.
 fn each_sum_ok<R: RunNumbers>(run: &R) -> bool
     requires { (R.run run.now).count ≤ 5000 }
     ensures { result ≡ all_below (sum_ok (R.run run.now)) 60 }
@@ -36,25 +36,41 @@ pub fn rest_mark(rest: u64) -> u64
     rest / 2 + 36870912
 }
 
-// The first n numbers under `or`, which has no branch and is fast: none of them is above it.
-fn or_of<F: Fn(usize) -> u64>(n: usize, number: F) -> u64
-    requires { (i : _) → i < n → F.pre number i }
-    ensures { (i : _) → i < n → ((x : _) × F.post number i x × (x ≤ result)) }
+// The first n amounts under `or`, which has no branch and is fast: none has more grams or a greater rest.
+fn or_of<F: Fn(usize) -> Amount>(n: usize, amount: F) -> Amount
+    requires { (i : _) → i < n → F.pre amount i }
+    ensures { (i : _) → i < n → ((a : _) × F.post amount i a × (a.grams.0 ≤ result.grams.0) × (a.rest ≤ result.rest)) }
 {
-    let mut bits: u64 = 0;
+    let mut grams: u64 = 0;
+    let mut rest: u64 = 0;
     for i in 0..n {
-        bits |= number(i);
+        let a = amount(i);
+        grams |= a.grams.0;
+        rest |= a.rest;
     }
-    bits
+    Amount {
+        grams: Grams(grams),
+        rest,
+    }
 }
 
 // Where it says yes, every sum and every total is 0.
 fn nothing_in<R: RunNumbers>(run: &R) -> bool
     ensures { result ≡ true → true ≡ sums_ok (R.run run.now) }
 {
-    let sums = or_of(60, |j| run.sum(j).grams.0) | or_of(60, |j| run.sum(j).rest);
-    let totals = or_of(15, |k| run.total(k).grams.0) | or_of(15, |k| run.total(k).rest);
-    sums | totals == 0
+    let sums = or_of(60, |j| run.sum(j));
+    let totals = or_of(15, |k| run.total(k));
+    sums.grams.0 | sums.rest | (totals.grams.0 | totals.rest) == 0
+}
+
+// A sum with the mark of its rest for the rest.
+fn marked(sum: Amount) -> Amount
+    ensures { (result.grams ≡ sum.grams) × (result.rest ≡ rest_mark sum.rest) }
+{
+    Amount {
+        grams: sum.grams,
+        rest: rest_mark(sum.rest),
+    }
 }
 
 // Whether the sums are in order: sum by sum only where the grams and the marks together do not decide.
@@ -62,9 +78,8 @@ fn kinds_ok<R: RunNumbers>(run: &R) -> bool
     requires { (R.run run.now).count ≤ 5000 }
     ensures { result ≡ all_below (sum_ok (R.run run.now)) 60 }
 {
-    let grams = or_of(60, |j| run.sum(j).grams.0);
-    let marks = or_of(60, |j| rest_mark(run.sum(j).rest));
-    if marks < 536870912 && grams < 1000000000000 * run.count() {
+    let sums = or_of(60, |j| marked(run.sum(j)));
+    if sums.rest < 536870912 && sums.grams.0 < 1000000000000 * run.count() {
         return true;
     }
     each_sum_ok(run)

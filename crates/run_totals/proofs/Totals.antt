@@ -2,15 +2,13 @@
 use mathlib.Core.Path.{◌≡◌, refl, ap, ◌∙◌}
 use Prim.Native.Nat.{ℕ, ◌+◌, ◌*◌, ◌-◌, ◌/◌, ◌≤◌, ◌<◌}
 use native.Mathlib.Omega.{arith}
-use lib.ListN.{length}
-use Rattle.units.specs.declared.Grams.{Grams}
-use Rattle.units.proofs.Between.{Between, between_none, between_more, between}
+use Rattle.units.proofs.Between.{Between, between_more, between}
 use Rattle.inventory.specs.declared.Amount.{Amount}
 use Rattle.inventory.specs.declared.Run.{Run}
 use Rattle.inventory.specs.Amounts.{sum_amount, with_total}
 use Rattle.inventory.specs.Order.{in_billionths, grams_in, rest_in}
 use Rattle.inventory.specs.Adding.{billionths, total_made, total_grams_made, total_rest_made, with_totals}
-use Rattle.inventory.specs.Limits.{AmountLimits, SumLimits, RunLimits}
+use Rattle.inventory.specs.Limits.{AmountLimits, RunLimits}
 use Rattle.inventory.proofs.Amounts.{value, rest_small}
 use Rattle.inventory.proofs.Stored.{exact_at, stored_grams, stored_rest}
 use Rattle.run_totals.specs.Between.{of_amounts, KeptOutside}
@@ -48,14 +46,6 @@ pub total_made_lem : (run : Run) (k j : ℕ) (t : Amount) → j ≡ k * 4
 unfolding total_made
 total_made_lem run k j t e h = h ∙ ap billionths (exact_at run k j e)
 
--- a sum of a run in order
-pub sum_small : (run : Run) → RunLimits (of_amounts run.grams run.rests run.total_grams run.total_rests) → (j : ℕ) → j < 60 → SumLimits (sum_amount run j)
-sum_small run lim j h = record { grams = lim.grams_most j h; rest = lim.rest_below j h }
-
--- where all totals are made, none is outside
-pub none_outside : (run : Run) → KeptOutside run 0 15
-none_outside run = record { kept = λ k h o. absurd (o (omega arith) h) }
-
 -- the limits of a run, by its amounts alone
 pub amounts_limits : (run : Run) → RunLimits run → RunLimits (of_amounts run.grams run.rests run.total_grams run.total_rests)
 amounts_limits run lim =
@@ -68,9 +58,6 @@ pub record MadeTo (old : Run) (from k : ℕ) (now : Run) : Type 0 where
   pub rests : Between 0 (total_rest_made old) old.total_rests 15 from k now.total_rests
 
 module _ (old : Run) (from : ℕ) where
-  pub made_none : length old.total_grams ≡ 15 → length old.total_rests ≡ 15 → MadeTo old from from old
-  made_none g r = record { others = refl; grams = between_none _ _ _ _ _ _ g refl; rests = between_none _ _ _ _ _ _ r refl }
-
   -- the sums are those of the old run
   pub sums_kept : {k : ℕ} {now : Run} → MadeTo old from k now → (j : ℕ) → in_billionths (sum_amount now j) ≡ in_billionths (sum_amount old j)
   sums_kept i j = ap (λ (r : Run). in_billionths (sum_amount r j)) i.others

@@ -10,7 +10,8 @@ ghost use Rattle.run_totals.specs.Between.{of_amounts, KeptOutside};
 use inventory::{Amount, Run};
 use units::Grams;
 
-// Two amounts in one. The carry without a branch: s + 73,741,824 reaches 2^30 where s reaches 10^9.
+// Two amounts in one: a sum has two sides, and a struct of both would say no more. The carry without a branch: s + 73,741,824
+// reaches 2^30 where s reaches 10^9.
 #[tactic(auto, using(crate::proofs::Totals::carried))]
 pub fn both(a: Amount, b: Amount) -> Amount
     requires { AmountLimits a × AmountLimits b }
@@ -24,7 +25,8 @@ pub fn both(a: Amount, b: Amount) -> Amount
     }
 }
 
-// The exact sum of four kinds, one after another: the compiler would else read two neighbours by one load, which waits until both are stored.
+// The exact sum of four kinds, one after another: the compiler would else read two neighbours by one load, which waits until
+// both are stored.
 #[tactic(auto, using(crate::proofs::Totals::amount_at, crate::proofs::Totals::three_in_one))]
 fn total_of(a: Amount, b: Amount, c: Amount, d: Amount) -> Amount
     requires { SumLimits a × SumLimits b × SumLimits c × SumLimits d }

@@ -1,7 +1,7 @@
 -- One line of a sheet after the other. Assumes nothing.
 use Prim.Native.Nat.{ℕ, min, ◌+◌, ◌≤◌, ◌<◌}
 use mathlib.Core.Path.{◌≡◌, refl, sym, ap, ◌∙◌}
-use mathlib.Core.Bool.{Bool, true, false, cond}
+use mathlib.Core.Bool.{Bool, true, false}
 use mathlib.Core.List.{List, [], ◌∷◌, ◌++◌, append-nil}
 use native.Mathlib.Omega.{arith}
 use lib.Dec.{eqb, ltb}
@@ -10,16 +10,15 @@ use lib.ListN.{length, length-append, take, drop, drop_of_length-le}
 use lib.Seq.{take_at, drop_at, take_all}
 use borrow.Author.Tests.{ltb-true, ltb-false}
 use Rattle.std.proofs.lemmas.List.{nil_from_length}
-use Rattle.std.specs.Prelude.{Option, None, Some, option_map}
+use Rattle.std.specs.Prelude.{Option, None, Some, option_map, option_and_then, Result, Err}
+use Rattle.std.specs.Option.{ok_or}
 use Rattle.inventory.specs.declared.Head.{Head}
 use Rattle.inventory.specs.declared.Record.{Record}
 use Rattle.inventory.specs.declared.Run.{Run}
-use Rattle.inventory.specs.Opening.{fresh_run, zero_run, open_number, open_run}
-use Rattle.inventory.specs.Adding.{with_totals}
-use Rattle.inventory.proofs.Fresh.{empty_totals}
+use Rattle.inventory.specs.Opening.{open_number, open_run}
 use Rattle.lines.specs.declared.HeadLine.{HeadLine}
 use Rattle.lines.specs.Lines.{lines, first_of, head_widths, record_widths, total, shaped, numbers_of}
-use Rattle.lines.specs.Records.{and_then, counts_of, head_of, record_with, record_of}
+use Rattle.lines.specs.Records.{counts_of, head_of, record_with, record_of}
 use Rattle.lines.specs.Reading.{head_line}
 use Rattle.lines.proofs.Lines.{line_length, then_back, first_line_lem, short, first_length, numbers_back, ends, chunk_numbers}
 use Rattle.sheet.specs.Sheet.{refused_at, decided, line_number, line_run, from_records, head_number, head_run, from_head, sheet_of}
@@ -33,12 +32,12 @@ module _ (l : List ℕ) where
   same_record : record_of (take 41 l) ≡ record_of first
   unfolding record_of total record_widths
   same_record =
-      ap (λ (o : Option (List ℤ)). and_then (and_then o counts_of) λ ns. Some (record_with ns)) (chunk_numbers record_widths l)
+      ap (λ (o : Option (List ℤ)). option_and_then (λ ns. Some (record_with ns)) (option_and_then counts_of o)) (chunk_numbers record_widths l)
 
   its_length : (rec : Record) → record_of first ≡ Some rec → line_length l ≡ 41
   unfolding record_of total record_widths
   its_length rec e =
-      let ns = then_back (and_then (numbers_of record_widths first) counts_of) (λ ns. Some (record_with ns)) rec e in
+      let ns = then_back (option_and_then counts_of (numbers_of record_widths first)) (λ ns. Some (record_with ns)) rec e in
       let zs = then_back (numbers_of record_widths first) counts_of ns.0 ns.1 in
       ends record_widths l (numbers_back record_widths first zs.0 zs.1).0
 
@@ -136,12 +135,9 @@ module _ (s : List ℕ) where
     unfolding decided
     head_taken h = sym (head_read ∙ rw h)
 
--- ---- the run that opening gives
+-- ---- what `?` met
 
-pub opened_totals : (head : Head) → with_totals (open_run head) ≡ open_run head
-unfolding open_run fresh_run zero_run
-opened_totals head = by (eqb (open_number head) 0)
-  where
-    by : (b : Bool) → with_totals (cond b (fresh_run head) zero_run) ≡ cond b (fresh_run head) zero_run
-    by true = empty_totals head.trip _
-    by false = empty_totals 0 _
+-- there is no value, and the error is the one given
+pub missed : {A E : Type 0} (o : Option A) (e x : E) (v : Result A E) → v ≡ ok_or o e → v ≡ Err x → (o ≡ None) × (x ≡ e)
+missed None e x v value was = let same : x ≡ e = cc in (refl, same)
+missed (Some y) e x v value was = cc

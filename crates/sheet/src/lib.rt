@@ -25,9 +25,7 @@ fn add_line(run: &mut Run, line: &[u8]) -> Result<(), Refusal>
     ensures run { with_totals run.new ≡ line_run (with_totals run.old) (record_of line.now) }
     ensures order { in_order (with_totals run.new) ≡ true }
 {
-    let Some(rec) = lines::record_in(line) else {
-        return Err(Refusal::LineShape);
-    };
+    let rec = lines::record_in(line).ok_or(Refusal::LineShape)?;
     recording::add_before_totals(run, rec)
 }
 
@@ -36,12 +34,11 @@ fn add_line(run: &mut Run, line: &[u8]) -> Result<(), Refusal>
 pub fn read_sheet(text: &[u8]) -> Result<Run, BadLine>
     ensures { read_outcome result ≡ sheet_of text.now }
 {
-    let Some(first) = lines::head_line(text) else {
-        return Err(BadLine {
-            reason: Refusal::LineShape,
-            line: 1,
-        });
-    };
+    let first = lines::head_line(text).ok_or(BadLine {
+        reason: Refusal::LineShape,
+        line: 1,
+    })?;
+    // A match here and an `if let` below: with map_err and `?` the proofs did not find what the closure gives.
     let mut run = match recording::open_run(first.head) {
         Ok(run) => run,
         Err(reason) => return Err(BadLine { reason, line: 1 }),

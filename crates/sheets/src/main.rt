@@ -15,7 +15,8 @@ use inventory::Run;
 use std::io;
 use std::io::{Read, Write};
 
-// The fifteen totals; 0 for one that is refused, which none of a sheet's run is.
+// The fifteen totals; 0 for one that is refused, which none of a sheet's run is. They are asked one by one: no value holds them
+// for a Display.
 fn print_totals(out: &mut impl Write, run: &Run) -> io::Result<()> {
     for fuel in 1..4 {
         for quantity in 1..6 {
@@ -40,14 +41,11 @@ fn print_sheet(out: &mut impl Write, text: &[u8]) -> io::Result<()> {
     }
 }
 
-// The first n bytes, all of them where there are fewer, and those behind them.
+// The first n bytes, all of them where there are fewer, and those behind them. A line names n, so it is a number and no place.
 fn cut(text: &[u8], n: u64) -> (&[u8], &[u8])
     ensures { length result.1.now ≤ length text.now }
 {
-    if n < text.len() as u64 {
-        return text.split_at(n as usize);
-    }
-    (text, &[])
+    text.split_at_checked(n as usize).unwrap_or((text, &[]))
 }
 
 // Every line, one after another.

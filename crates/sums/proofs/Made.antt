@@ -1,10 +1,8 @@
 -- The sums with a record, quantity by quantity. Assumes nothing.
 use mathlib.Core.Path.{◌≡◌, refl, ap, sym, ◌∙◌}
-use mathlib.Core.List.{List}
 use Prim.Native.Nat.{ℕ, ◌+◌, ◌*◌, ◌/◌, ◌≤◌, ◌<◌}
 use native.Mathlib.Omega.{arith}
-use lib.ListN.{length, get_or}
-use Rattle.units.specs.declared.Grams.{Grams}
+use lib.ListN.{length}
 use Rattle.units.specs.Lists.{tab}
 use Rattle.units.proofs.Between.{Between, between_none, between_more, between}
 use Rattle.classes.specs.Classes.{fuel_of}
@@ -12,7 +10,7 @@ use Rattle.inventory.specs.declared.Amount.{Amount}
 use Rattle.inventory.specs.declared.Record.{Record}
 use Rattle.inventory.specs.declared.Run.{Run}
 use Rattle.inventory.specs.Amounts.{sum_amount, with_sum}
-use Rattle.inventory.specs.Limits.{RunLimits, SumLimits}
+use Rattle.inventory.specs.Limits.{RunLimits}
 use Rattle.inventory.specs.Order.{grams_in, rest_in, sum_at, in_billionths}
 use Rattle.inventory.specs.Adding.{grams_after, rest_after, slot_after}
 use Rattle.inventory.proofs.Adding.{kept_grams, kept_rest}
@@ -36,10 +34,6 @@ module _ (old : Run) (rec : Record) (fuel : ℕ) where
 
     pub amount_above : (j : ℕ) → fuel * 20 + q * 4 ≤ j → in_billionths (sum_amount now j) ≡ grams_in old j * 1000000000 + rest_in old j
     amount_above j h = rw (grams_above j h, i.rests.above j h)
-
-    -- and so is within the bounds of a run in order
-    pub limits_above : RunLimits (of_sums old.x old.grams old.rests) → (j : ℕ) → fuel * 20 + q * 4 ≤ j → j < 60 → SumLimits (sum_amount now j)
-    limits_above lim j h l = record { grams = rw (grams_above j h) (lim.grams_most j l); rest = rw (i.rests.above j h) (lim.rest_below j l) }
 
     pub x_kept : now.x ≡ old.x
     x_kept = ap (λ r. r.x) i.others

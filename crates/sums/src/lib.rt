@@ -20,6 +20,7 @@ pub fn add_sums(run: &mut Run, rec: Record)
     let shares = rec.shares;
     let k = VehicleKm(rec.vehicles * rec.km);
     let f = book::factors_of(rec.class, rec.speeds);
+    // by place: a quantity has three factors and four sums
     for q in 0..5 {
         let b = fuel * 20 + q * 4;
         let urban = f[q * 3];

@@ -11,7 +11,7 @@ fn glyph(n: u64) -> u8
     if n == 0 { b' ' } else { b'0' + (n % 10) as u8 }
 }
 
-// Fills the field with the number.
+// Fills the field with the number; n is no place in f.
 #[tactic(auto, using(crate::proofs::Write::empty, crate::proofs::Write::turn))]
 pub fn write_number(f: &mut [u8], n: u64)
     ensures { f.new ≡ render (length f.old) n }
@@ -19,6 +19,7 @@ pub fn write_number(f: &mut [u8], n: u64)
     if f.is_empty() {
         return;
     }
+    // by places: `[rest @ .., last]` of a lent slice, tried, is a reborrow that Rattle's borrow checker does not cover yet
     let last = f.len() - 1;
     f[last] = b'0' + (n % 10) as u8;
     let mut m = n / 10;

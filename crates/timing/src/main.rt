@@ -34,6 +34,7 @@ fn filled(fresh: &Run) -> Run {
     run
 }
 
+// Printed by calls: `Amount` and `Run` are another crate's, so Display would need a struct around each, for one use.
 fn print_amount(rt: &impl Print, a: Amount) -> io::Result<()> {
     println!(rt; "{} {}", a.grams.0, a.rest)
 }

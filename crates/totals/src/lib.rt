@@ -14,15 +14,11 @@ use units::{Grams, Refusal};
 pub fn kind_place(kind: Kind) -> usize
     ensures { result ≡ kind_place kind }
 {
-    match kind {
-        Kind::Urban => 0,
-        Kind::Rural => 1,
-        Kind::Highway => 2,
-        Kind::Cold => 3,
-    }
+    kind as usize
 }
 
-// Whether a question is refused: 16, then 11.
+// Whether a question is refused: 16, then 11. Fuel and quantity are numbers, and each is a parameter: callers hand over any, C one
+// by one.
 #[tactic(auto, using(inventory::proofs::Totals::refused_order, inventory::proofs::Totals::refused_fuel, inventory::proofs::Totals::refused_quantity, inventory::proofs::Totals::asked), unfolding(units::specs::Refusals::answer_number, units::specs::Refusals::refusal_number))]
 pub fn question_verdict(run: &Run, fuel: u64, quantity: u64) -> Result<(), Refusal>
     ensures { answer_number result ≡ first_fit (total_grounds run.now fuel quantity) }
@@ -30,10 +26,7 @@ pub fn question_verdict(run: &Run, fuel: u64, quantity: u64) -> Result<(), Refus
     if !order::in_order(run) {
         return Err(Refusal::RunOrder);
     }
-    if units::is_outside(1, 3, fuel) {
-        return Err(Refusal::FuelOrQuantity);
-    }
-    if units::is_outside(1, 5, quantity) {
+    if units::is_outside(1, 3, fuel) || units::is_outside(1, 5, quantity) {
         return Err(Refusal::FuelOrQuantity);
     }
     Ok(())

@@ -60,7 +60,7 @@ fn case(out: &mut impl Write, line: &[u8], run: &mut Run) -> io::Result<()> {
 // At most so many bytes of cases are read.
 const ROOM: u64 = 524288;
 
-// Each program has its own state and its own lines, so `main` stays in each.
+// Each program has its own lines and most have a state of their own, so `main` stays in each: shared, it would take both.
 fn main(rt: HostRuntime) -> io::Result<()> {
     let mut cases = Vec::new(rt.alloc());
     rt.reader().take(ROOM).read_to_end(&mut cases)?;

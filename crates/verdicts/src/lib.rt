@@ -14,8 +14,8 @@ use units::Refusal;
 fn temperatures_ok(head: &Head) -> bool
     ensures { result ≡ all_below (month_ok head.now) 12 }
 {
-    for t in head.temps {
-        if !coldstart::temperature_ok(t) {
+    for t in &head.temps {
+        if !coldstart::temperature_ok(*t) {
             return false;
         }
     }

@@ -1,19 +1,8 @@
 -- `area_order::in_order` meets its contract. Assumes nothing.
-use Rattle.std.proofs.Common.{◌≡◌, ℕ, refl, sym, ◌∙◌, arith}
-use Rattle.units.specs.Lists.{all_below, sum_to}
+use Rattle.std.proofs.Common.{◌≡◌, sym, ◌∙◌, arith}
 use Rattle.units.proofs.Tests.{more}
-use Rattle.area_order.proofs.Tests.{bad_length, bad_area, first_bad, last_common, bad_common, area_is, sum_more, count_few}
+use Rattle.area_order.proofs.Tests.{bad_area, last_common, bad_common, area_is, sum_more, count_few}
 use Rattle.area_order.proofs.in_order.Goals as goal
-
-pub returns-then-numbers-ne2737 : goal.returns-then-numbers-ne2737
-returns-then-numbers-ne2737 c = bad_length c.args.numbers.now c.if-numbers-ne2737.true
-
-pub returns-then-not-head_ok : goal.returns-then-not-head_ok
-returns-then-not-head_ok c = let e = rw c.at-first.ensures at c.if-not-head_ok.ensures in first_bad c.args.numbers.now c.if-numbers-ne2737.false e
-
-pub loop-i-init : goal.loop-i-init
-unfolding all_below sum_to
-loop-i-init c = record { small = omega arith; ok = refl; sum = refl }
 
 pub returns-then-not-area_ok : goal.returns-then-not-area_ok
 returns-then-not-area_ok c =

@@ -1,31 +1,26 @@
 -- `area_recording::area_run` meets its contract. Assumes nothing.
-use mathlib.Core.Path.{sym, ◌∙◌}
-use native.Mathlib.Omega.{arith}
-use Rattle.units.specs.Refusals.{answer_number, refusal_number}
+use Rattle.std.proofs.Common.{◌∙◌, arith}
+use Rattle.units.specs.Refusals.{answer_number}
 use Rattle.inventory.specs.Opening.{given_run}
 use Rattle.areas.specs.Numbers.{areas_of}
+use Rattle.areas.specs.Calls.{area_run_number}
 use Rattle.areas.proofs.Order.{size_is}
-use Rattle.areas.proofs.Adding.{run_unordered, run_no_area, run_given}
+use Rattle.areas.proofs.Adding.{run_given}
+use Rattle.area_recording.proofs.Adding.{run_refused}
 use Rattle.area_recording.proofs.area_run.Goals as goal
 
-pub returns-then-not-in_order : goal.returns-then-not-in_order
-unfolding answer_number refusal_number given_run
-returns-then-not-in_order c =
-    let p = run_unordered c.args.numbers.now c.args.area (sym c.in_order.ensures ∙ c.if-not-in_order.true) in record { number = p.0; run = p.1 }
+pub returns-in_err-place : goal.returns-in_err-place
+unfolding area_run_number
+returns-in_err-place c =
+    let h = rw c.in_err-place.was at c.place_of.ensures.refused in
+    let p = run_refused c.args.numbers.now c.args.area c.from_residual.result _ c.from_residual.ensures.1 (h _) in record { number = p.0; run = p.1 }
 
 pub at-requires : goal.at-requires
-at-requires c = omega (arith, size_is c.args.numbers.now (sym c.in_order.ensures ∙ c.if-not-in_order.false), c.if-area-le15.true)
-
-pub returns-then-area-le15 : goal.returns-then-area-le15
-unfolding answer_number areas_of given_run
-returns-then-area-le15 c =
-    let p = run_given c.args.numbers.now c.args.area (sym c.in_order.ensures ∙ c.if-not-in_order.false) c.if-area-le15.true in
-    record {
-      number = p.0;
-      run = c.run_of.ensures ∙ c.at.ensures ∙ p.1;
-    }
+at-requires c = let p = rw c.in_ok-place.was at c.place_of.ensures.place in omega (arith, size_is _ p.2, p.0, p.1)
 
 pub returns : goal.returns
-unfolding answer_number refusal_number given_run
+unfolding answer_number given_run areas_of
 returns c =
-    let p = run_no_area c.args.numbers.now c.args.area (sym c.in_order.ensures ∙ c.if-not-in_order.false) c.if-area-le15.false in record { number = p.0; run = p.1 }
+    let p = rw c.in_ok-place.was at c.place_of.ensures.place in
+    let e = rw p.0 at c.at.ensures in
+    let g = run_given c.args.numbers.now c.args.area p.2 p.1 in record { number = g.0; run = c.run_of.ensures ∙ e ∙ g.1 }

@@ -4,7 +4,7 @@ use native.Mathlib.Omega.{arith}
 use Rattle.units.specs.Lists.{tab}
 use Rattle.units.proofs.Tab.{filled_none, filled_more, filled}
 use Rattle.factors.proofs.Factors.{two_stroke_lem}
-use Rattle.book.proofs.Lines.{roads, lines_factors}
+use Rattle.book.proofs.Lines.{road_speed, roads, lines_factors}
 use Rattle.book.proofs.factors_of.Goals as goal
 
 pub returns-then-class-eq5 : goal.returns-then-class-eq5
@@ -15,13 +15,16 @@ loop-road-init c = filled_none _ _ _ refl
 
 pub line_of-requires : goal.line_of-requires
 line_of-requires c =
+    let s = c.args.speeds in
     record {
-      driven = rw c.speed_on.ensures (roads _ _ _ _ c.requires.0 c.requires.1 c.requires.2 c.loop-road.road (omega arith));
+      driven = rw (road_speed s.urban s.rural s.highway c.loop-road.road) (roads _ _ _ _ c.requires.0 c.requires.1 c.requires.2 c.loop-road.road (omega arith));
       fact = c.if-class-eq5.false;
     }
 
 pub loop-road-preserved : goal.loop-road-preserved
-loop-road-preserved c = filled_more _ c.loop-road.invariant (omega arith) (rw c.speed_on.ensures at c.line_of.ensures)
+loop-road-preserved c =
+    let s = c.args.speeds in
+    filled_more _ c.loop-road.invariant (omega arith) (rw (road_speed s.urban s.rural s.highway c.loop-road.road) at c.line_of.ensures)
 
 pub returns : goal.returns
 unfolding tab

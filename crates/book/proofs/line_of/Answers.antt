@@ -15,17 +15,17 @@ overflow_add-place c =
     let p = placed c.args.class _ c.requires.driven c.requires.fact in
     omega (arith, p.0, c.place_of-place.ensures, c.requires.driven.speed_high)
 
-pub page_of-p-requires : goal.page_of-p-requires
-page_of-p-requires c =
+pub page_of-requires : goal.page_of-requires
+page_of-requires c =
     let p = placed c.args.class _ c.requires.driven c.requires.fact in
     omega (arith, p.0, c.place_of-place.ensures, c.requires.driven.speed_high)
 
-pub returns-then-c-eq0 : goal.returns-then-c-eq0
-returns-then-c-eq0 c =
+pub returns-then-place-eq0 : goal.returns-then-place-eq0
+returns-then-place-eq0 c =
     let e = c.place_of-place.ensures in
-    page_line book _ _ _ 0 (rw e at c.page_of-p.ensures) (omega (arith, c.requires.driven.speed_high)) (rw e at c.if-c-eq0.true)
+    page_line book _ _ _ 0 (rw e at c.page_of.ensures) (omega (arith, c.requires.driven.speed_high)) (rw e at c.if-place-eq0.true)
 
-pub returns : goal.returns
-returns c =
+pub returns-else-place-eq0 : goal.returns-else-place-eq0
+returns-else-place-eq0 c =
     let e = c.place_of-place.ensures in
-    page_line book _ _ _ 1 (rw e at c.page_of-p.ensures) (omega (arith, c.requires.driven.speed_high)) (omega (arith, e, c.if-c-eq0.false))
+    page_line book _ _ _ 1 (rw e at c.page_of.ensures) (omega (arith, c.requires.driven.speed_high)) (omega (arith, e, c.if-place-eq0.false))

@@ -7,4 +7,4 @@ use Rattle.coldstart.specs.ColdStart.{x_of_sums}
 use Rattle.cold_values.proofs.quotients.Given as goal
 
 abbrev pub invariant-loop-i : goal.invariant-loop-i
-invariant-loop-i l = (l.i ≤ 15) × (l.half ≡ l.weight * 500) × Filled (x_of_sums l.weight l.sums) x_count l.x l.i
+invariant-loop-i l = (l.i ≤ 15) × (l.half ≡ l.weight * 500) × Filled (x_of_sums l.weight l.fn.sums) x_count l.x l.i

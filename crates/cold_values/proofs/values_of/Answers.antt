@@ -41,7 +41,7 @@ with_month-next-requires c =
     let l = c.loop-k in
     let e = c.weights_of-weights.ensures.months in
     let ok = read_ok _ (w.temperatures l.k (omega arith)) in
-    (c.requires.0, small_sums _ _ w _ (light c.args.period _ e) l.k _ (omega arith) l.invariant.1, omega (arith, month c), ok)
+    (c.requires.0, small_sums _ _ w _ (light c.args.period _ e) l.k _ (omega arith) l.invariant.1, omega (arith, month c.before), ok)
 
 pub loop-k-preserved : goal.loop-k-preserved
 loop-k-preserved c =

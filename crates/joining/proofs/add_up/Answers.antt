@@ -1,5 +1,4 @@
 -- `joining::add_up` meets its contract. Assumes nothing.
-use mathlib.Core.Path.{◌∙◌}
 use native.Mathlib.Omega.{arith}
 use Rattle.joining.proofs.Sums.{km_more, sum_more, total_more, all_added}
 use Rattle.joining.proofs.add_up.Goals as goal

@@ -2,6 +2,7 @@
 use mathlib.Core.Path.{sym, ◌∙◌}
 use Rattle.lines.proofs.HeadLines.{short_none, year_none, year_read, days_short_none, days_lf_none, first_none, last_none, days_none, days_read}
 use Rattle.lines.proofs.head_line.Goals as goal
+use Rattle.lines.proofs.head_line.Goals.{then-s-lt84-via-then-s-lt84, then-s-lt84-via-else-s-lt84+then-s-ne10}
 
 pub returns-then-s-lt66 : goal.returns-then-s-lt66
 returns-then-s-lt66 c = short_none c.args.s.now c.if-s-lt66.true
@@ -13,10 +14,11 @@ pub returns-then-s-eq10 : goal.returns-then-s-eq10
 returns-then-s-eq10 c = year_read c.args.s.now c.if-s-lt66.false c.if-s-eq10.true _ (sym c.in_ok-head.was ∙ c.head_over.ensures)
 
 pub returns-then-s-lt84 : goal.returns-then-s-lt84
-returns-then-s-lt84 c = days_short_none c.args.s.now c.if-s-lt66.false c.if-s-eq10.false c.if-s-lt84.true
-
-pub returns-then-s-ne10 : goal.returns-then-s-ne10
-returns-then-s-ne10 c = days_lf_none c.args.s.now c.if-s-lt66.false c.if-s-eq10.false c.if-s-ne10.true
+returns-then-s-lt84 c =
+    elim c.then-s-lt84.branch [
+      | then-s-lt84-via-then-s-lt84 w ↦ days_short_none c.args.s.now c.if-s-lt66.false c.if-s-eq10.false w.if-s-lt84.true
+      | then-s-lt84-via-else-s-lt84+then-s-ne10 w ↦ days_lf_none c.args.s.now c.if-s-lt66.false c.if-s-eq10.false w.if-s-ne10.true
+    ]
 
 pub returns-in_err-first : goal.returns-in_err-first
 returns-in_err-first c =

@@ -5,5 +5,5 @@ use lib.ListN.{length}
 use Rattle.listing.specs.Report.{lines_from, lines_of}
 use Rattle.listing.proofs.report_length.Given as goal
 
-abbrev pub invariant-loop-k : goal.invariant-loop-k
-invariant-loop-k l = (l.n ≤ 97 * l.k) × (l.n + length (lines_from l.f (15 - l.k) l.k) ≡ length (lines_of l.f))
+abbrev pub invariant-loop-row : goal.invariant-loop-row
+invariant-loop-row l = (l.n ≤ 97 * l.row-index) × (l.n + length (lines_from l.f (15 - l.row-index) l.row-index) ≡ length (lines_of l.f))

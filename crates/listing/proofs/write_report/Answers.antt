@@ -1,5 +1,7 @@
 -- `listing::write_report` meets its contract. Assumes nothing.
-use mathlib.Core.Path.{sym, ◌∙◌}
+use mathlib.Core.Path.{sym, ap, ◌∙◌}
+use mathlib.Core.List.{◌++◌}
+use lib.ListN.{drop}
 use Rattle.inventory.proofs.Order.{run_limits, total_limits}
 use Rattle.listing.proofs.Report.{refused_order, refused_short, report_written}
 use Rattle.listing.proofs.write_report.Goals as goal
@@ -24,6 +26,6 @@ pub returns : goal.returns
 returns c =
     let q =
     report_written c.args.run.now c.args.buffer.now (sym c.in_order.ensures ∙ c.if-not-in_order.false) _ c.figures_of-f.ensures _
-    c.report_length-n.ensures _ c.if-buffer-n.false c.lines_at.ensures
+    c.report_length-n.ensures _ c.if-buffer-n.false (ap (λ t. t ++ drop c.report_length-n.result c.args.buffer.now) c.write_lines.ensures)
     in
     record { answer = q.0; bytes = q.1 }

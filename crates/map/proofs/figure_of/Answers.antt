@@ -18,5 +18,5 @@ returns-then-not_given c =
 pub returns : goal.returns
 unfolding figure_answer
 returns c =
-    let q = figure_given _ _ _ _ (ap row_answer (sym c.in_ok-row.was) ∙ c.row_of.ensures.answer) (rw c.in_ok-row.was at c.row_of.ensures.exact) _ _ (sym c.not_given.ensures ∙ c.if-not_given.false) c.field_of.ensures in
+    let q = figure_given _ _ _ _ (ap row_answer (sym c.in_ok-row.was) ∙ c.row_of.ensures.answer) (rw c.in_ok-row.was at c.row_of.ensures.exact) _ _ (sym c.not_given.ensures ∙ c.if-not_given.false) c.of.ensures in
     record { answer = q.0; exact = q.1 }

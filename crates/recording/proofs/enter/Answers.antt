@@ -1,5 +1,5 @@
 -- `recording::enter` meets its contract. Assumes nothing.
-use mathlib.Core.Path.{ap, sym, subst, ◌∙◌}
+use mathlib.Core.Path.{ap, ◌∙◌}
 use native.Mathlib.Omega.{arith}
 use Rattle.classes.proofs.Classes.{fuel_below}
 use Rattle.inventory.specs.Adding.{run_with, with_totals}

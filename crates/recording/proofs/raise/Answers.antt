@@ -1,9 +1,5 @@
 -- `recording::raise` meets its contract. Assumes nothing.
-use mathlib.Core.Path.{ap, ◌∙◌}
-use Prim.Native.Nat.{◌+◌}
-use Rattle.inventory.specs.declared.Run.{Run}
-use Rattle.inventory.specs.Adding.{raised}
-use Rattle.sums.proofs.Parts.{sums_limits, km_limits}
+use Rattle.sums.proofs.Parts.{sums_limits}
 use Rattle.recording.proofs.Runs.{raised_parts}
 use Rattle.recording.proofs.raise.Goals as goal
 

@@ -1,6 +1,5 @@
 -- `reporting::report_sheet` meets its contract. Assumes nothing.
 use mathlib.Core.Path.{refl, sym, ap, ◌∙◌}
-use lib.Dec.{eqb}
 use Rattle.units.specs.Refusals.{refusal_number}
 use Rattle.units.proofs.Refusals.{number_positive}
 use Rattle.sheet.specs.Sheet.{Outcome}
@@ -43,11 +42,10 @@ returns-in-Err c =
     let a = c.args in
     let h = c.if-text-gt65536.false in
     let s = c.in-Err.ensures in
-    let r = c.refusal_number.ensures in
     let e = c.write_refused-in-Err.ensures in
     let n = ap (λ (o : Outcome). o.number) s ∙ sym (own_number a.text.now h) in
     let l = ap (λ (o : Outcome). o.line) s ∙ sym (own_line a.text.now h) in
-    let w = text_by _ a.text.now a.buffer.now _ _ (refused_text a.text.now _ _ (r ∙ n) (ap (λ k. eqb k 0) r ∙ number_positive _) l) e.answer e.bytes in
+    let w = text_by _ a.text.now a.buffer.now _ _ (refused_text a.text.now _ _ n (number_positive _) l) e.answer e.bytes in
     record {
       answer = w.0;
       number = n;

@@ -5,8 +5,8 @@ use Rattle.run_sums.specs.Marks.{rest_mark}
 use Rattle.run_sums.proofs.Together.{within, together}
 use Rattle.run_sums.proofs.kinds_ok.Goals as goal
 
-pub returns-then-grams-count : goal.returns-then-grams-count
-returns-then-grams-count g c =
+pub returns-then-sums-count : goal.returns-then-sums-count
+returns-then-sums-count g c =
     let run = g.R.RunNumbers.run c.args.run.now in
-    together run _ (within (grams_in run) _ _ _ (λ i x p. search rules) c.or_of-grams.ensures) _
-    (within (λ j. rest_mark (rest_in run j)) _ _ _ (λ i x p. search rules) c.or_of-marks.ensures) c.if-marks-lt536870912.true (omega arith)
+    let w = within (grams_in run) (λ j. rest_mark (rest_in run j)) _ _ _ (λ i x p. search rules) c.or_of-sums.ensures in
+    together run _ w.0 _ w.1 c.if-sums-lt536870912.true (omega arith)

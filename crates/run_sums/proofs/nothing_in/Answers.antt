@@ -8,9 +8,6 @@ use Rattle.run_sums.proofs.nothing_in.Goals as goal
 pub returns : goal.returns
 returns g c =
     let run = g.R.RunNumbers.run c.args.run.now in
-    λ e. all_none run _ _ _ _
-    (within (grams_in run) _ _ _ (λ i x p. search rules) c.or_of.ensures)
-    (within (rest_in run) _ _ _ (λ i x p. search rules) c.or_of-2.ensures)
-    (within (total_grams_in run) _ _ _ (λ i x p. search rules) c.or_of-3.ensures)
-    (within (total_rest_in run) _ _ _ (λ i x p. search rules) c.or_of-4.ensures)
-    (eqb-true _ 0 e)
+    let u = within (grams_in run) (rest_in run) _ _ _ (λ i x p. search rules) c.or_of-sums.ensures in
+    let v = within (total_grams_in run) (total_rest_in run) _ _ _ (λ i x p. search rules) c.or_of-totals.ensures in
+    λ e. all_none run _ _ _ _ u.0 u.1 v.0 v.1 (eqb-true _ 0 e)

@@ -1,5 +1,4 @@
 -- What the loop of `run_totals::make_totals` keeps. Assumes nothing.
-use Prim.Native.Nat.{◌≤◌}
 use Rattle.run_totals.proofs.Totals.{MadeTo}
 use Rattle.run_totals.proofs.make_totals.Given as goal
 

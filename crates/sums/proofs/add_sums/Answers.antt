@@ -1,13 +1,8 @@
 -- `sums::add_sums` meets its contract. Assumes nothing.
-use Rattle.std.proofs.Common.{rules}
-use mathlib.Core.Path.{◌≡◌, sym, ap, ◌∙◌}
-use Prim.Native.Nat.{ℕ, ◌+◌, ◌*◌, ◌<◌}
+use mathlib.Core.Path.{◌≡◌}
+use Prim.Native.Nat.{◌+◌, ◌*◌}
 use native.Mathlib.Omega.{arith}
-use Rattle.units.proofs.Between.{length_of}
-use Rattle.classes.specs.Classes.{fuel_of}
 use Rattle.inventory.specs.Records.{vehicle_km}
-use Rattle.inventory.specs.Order.{sum_at}
-use Rattle.inventory.specs.Adding.{slot_after}
 use Rattle.kilometres.proofs.Made.{fuel_most}
 use Rattle.sums.specs.Parts.{of_sums}
 use Rattle.sums.proofs.Slots.{rate_small, hot_made, cold_made}

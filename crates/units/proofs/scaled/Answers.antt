@@ -6,11 +6,6 @@ use native.Mathlib.Omega.{arith}
 use Rattle.units.proofs.Rounds.{half_up-nearest, split_scale, scale_whole, mul_most}
 use Rattle.units.proofs.scaled.Goals as goal
 
-pub overflow_mul-p : goal.overflow_mul-p
-overflow_mul-p c =
-    let r = mul_most c.args.m (c.args.f.0 % c.args.d) 80000000 20000000 (omega arith) (omega (arith, mod-lt c.args.f.0 c.requires.divisor)) in
-    omega arith
-
 pub overflow_mul-m : goal.overflow_mul-m
 overflow_mul-m c =
     let w = scale_whole c.args.m c.args.f.0 c.args.d c.requires.factor in
