@@ -17,7 +17,7 @@ use Rattle.units.specs.Refusals.{answer_number, refusal_number}
 use Rattle.units.proofs.Refusals.{number_positive}
 use Rattle.units.proofs.Passed.{passed_up}
 use Rattle.units.specs.Lists.{tab}
-use Rattle.units.specs.Grounds.{Ground, first_fit}
+use Rattle.units.specs.Grounds.{first_fit}
 use Rattle.units.proofs.Tab.{tab_at, tab_length}
 use Rattle.units.proofs.Tests.{and_left}
 use Rattle.inventory.specs.declared.Record.{Record}
@@ -28,7 +28,7 @@ use Rattle.inventory.specs.Order.{in_order}
 use Rattle.inventory.specs.Adding.{run_with}
 use Rattle.areas.specs.Areas.{common_after, area_full, area_grounds, with_run, areas_with}
 use Rattle.areas.specs.Numbers.{run_at, run_number, areas_of, areas_number, numbers_of}
-use Rattle.areas.specs.Calls.{numbers_in_order, call_grounds, add_area_number, add_area_numbers, area_run_number, area_run}
+use Rattle.areas.specs.Calls.{numbers_in_order, add_area_number, add_area_numbers, area_run_number, area_run}
 use Rattle.areas.proofs.Numbers.{number_read}
 use Rattle.areas.proofs.Order.{size_is, areas_ok, run_ok, count_most, common_most}
 use Rattle.areas.proofs.Adding.{area_taken, add_in_turn}
@@ -75,15 +75,6 @@ module _ (numbers ys : List ℕ) (area : ℕ) (run : Run) (common : ℕ) (size :
       ∙ sym (tab_at 0 F 2737 j t)) (eq-or-lt_of_le (omega arith)))
 
 -- ---- 16, then 17, whatever grounds follow
-
-module _ (numbers : List ℕ) (area : ℕ) (own : List Ground) where
-  pub call_unordered : numbers_in_order numbers ≡ false → 16 ≡ first_fit (call_grounds numbers area own)
-  unfolding first_fit
-  call_unordered o = rw o
-
-  pub call_no_area : numbers_in_order numbers ≡ true → 15 < area → 17 ≡ first_fit (call_grounds numbers area own)
-  unfolding first_fit
-  call_no_area o h = rw (o, lt-ltb 15 area h)
 
 -- the run where that refuses
 pub run_refused : (numbers : List ℕ) (area : ℕ) (answer : Result Run Refusal) (r : Refusal) → IsErrAnd answer (λ y. y ≡ r) → refusal_number r ≡ area_run_number numbers area

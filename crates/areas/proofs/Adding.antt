@@ -1,18 +1,18 @@
 -- Laws of the grounds of adding to an area and of the run of an area. Assumes nothing.
 use mathlib.Core.Path.{◌≡◌, refl}
-use mathlib.Core.Bool.{true, not, cond, ◌&&◌}
+use mathlib.Core.Bool.{true, false, not, cond, ◌&&◌}
 use mathlib.Core.List.{List}
 use Prim.Native.Nat.{ℕ, ◌≤◌, ◌<◌}
 use lib.Dec.{eqb}
 use borrow.Author.Tests.{lt-ltb, le-ltb}
-use Rattle.units.specs.Grounds.{first_fit}
+use Rattle.units.specs.Grounds.{Ground, first_fit}
 use Rattle.inventory.specs.declared.Record.{Record}
 use Rattle.inventory.specs.Opening.{zero_run}
 use Rattle.inventory.specs.Records.{record_grounds}
 use Rattle.inventory.proofs.Records.{record_then, record_taken}
 use Rattle.areas.specs.Areas.{counts_of, area_full, area_grounds}
 use Rattle.areas.specs.Numbers.{areas_of}
-use Rattle.areas.specs.Calls.{numbers_in_order, add_area_number, area_run_number, area_run}
+use Rattle.areas.specs.Calls.{numbers_in_order, call_grounds, add_area_number, area_run_number, area_run}
 
 -- ---- a record in an area
 
@@ -26,6 +26,15 @@ module _ (count common : ℕ) (rec : Record) where
   area_taken = record_taken rec 18 (area_full count common) refl
 
 -- ---- 16, then 17
+
+module _ (numbers : List ℕ) (area : ℕ) (own : List Ground) where
+  pub call_unordered : numbers_in_order numbers ≡ false → 16 ≡ first_fit (call_grounds numbers area own)
+  unfolding first_fit
+  call_unordered o = rw o
+
+  pub call_no_area : numbers_in_order numbers ≡ true → 15 < area → 17 ≡ first_fit (call_grounds numbers area own)
+  unfolding first_fit
+  call_no_area o h = rw (o, lt-ltb 15 area h)
 
 module _ (numbers : List ℕ) (area : ℕ) where
   module _ (o : numbers_in_order numbers ≡ true) where

@@ -1,7 +1,7 @@
 -- `area_recording::place_of` meets its contract. Assumes nothing.
 use Rattle.std.proofs.Common.{refl, sym, ◌∙◌}
 use Rattle.units.specs.Refusals.{refusal_number}
-use Rattle.area_recording.proofs.Adding.{call_unordered, call_no_area}
+use Rattle.areas.proofs.Adding.{call_unordered, call_no_area}
 use Rattle.area_recording.proofs.place_of.Goals as goal
 
 pub returns-then-not-in_order : goal.returns-then-not-in_order
