@@ -49,22 +49,30 @@ fn print_total(
     }
 }
 
-// What a line does to the numbers lent, or asks of them.
+// What a line does to the numbers lent.
 fn change(out: &mut impl Write, line: &[u8], numbers: &mut [u64]) -> io::Result<()> {
-    let area = number(line, 1);
     match line {
         // open L T..
         [b'o', ..] => harness_areas::open(out, numbers, line),
-        // add AREA TIMES CLASS VEHICLES KM SHARES SPEEDS
-        [b'a', ..] => harness_areas::add(out, numbers, line),
+        // add AREA TIMES CLASS VEHICLES KM SHARES SPEEDS: the second letter tells it from `all`
+        [_, b'd', ..] => harness_areas::add(out, numbers, line),
+        _ => Ok(()),
+    }
+}
+
+// What a line asks of the numbers lent.
+fn ask(out: &mut impl Write, line: &[u8], numbers: &[u64]) -> io::Result<()> {
+    // looked for where it is asked: a number that the line lacks may stand far behind it
+    let n = |k| number(line, k);
+    match line {
         // run AREA
         [b'r', ..] => {
-            let run = area_recording::area_run(numbers, area);
+            let run = area_recording::area_run(numbers, n(1));
             print(out, units::answer_number(&run))?;
             print_fields(out, &harness_adds::given(run))
         }
         // total AREA FUEL QUANTITY
-        [b't', ..] => print_total(out, numbers, area, number(line, 2), number(line, 3)),
+        [b't', ..] => print_total(out, numbers, n(1), n(2), n(3)),
         _ => Ok(()),
     }
 }
@@ -76,7 +84,7 @@ fn put(numbers: &mut [u64], place: u64, value: u64) {
     }
 }
 
-// What a line does to the first numbers, as many as are lent; the state is `main`'s, so no struct holds it.
+// What a line does to the first numbers, as many as are lent, and then asks of them; the state is `main`'s, so no struct holds it.
 fn change_lent(
     out: &mut impl Write,
     line: &[u8],
@@ -84,30 +92,40 @@ fn change_lent(
     lent: u64,
 ) -> io::Result<()> {
     match numbers.get_mut(..lent as usize) {
-        Some(first) => change(out, line, first),
+        Some(first) => {
+            change(out, line, first)?;
+            ask(out, line, first)
+        }
         None => Ok(()),
     }
 }
 
-// One line: the line itself, then what it does or asks.
+// One line: the line itself, then what it does or asks. A second byte `d` adds, unless the first is an `o` or a `p`, and prints the
+// common use; a second byte `l` prints all numbers. An empty line's second byte is the next line's first.
 fn case(out: &mut impl Write, line: &[u8], numbers: &mut [u64], lent: &mut u64) -> io::Result<()> {
     print_case(out, line)?;
     match line {
         // put PLACE VALUE
         [b'p', ..] => put(numbers, number(line, 1), number(line, 2)),
-        // lend N
-        [b'l', ..] => *lent = number(line, 1),
-        // all
-        [b'a', b'l', ..] => print_numbers(out, numbers)?,
         _ => change_lent(out, line, numbers, *lent)?,
     }
-    // behind an add the common use
-    if let [b'a', b'd', ..] = line {
-        if let Some(common) = numbers.get(2736) {
-            print(out, *common)?;
+    match line {
+        // all
+        [_, b'l', ..] => print_numbers(out, numbers)?,
+        // behind an add the common use
+        [_, b'd', ..] => {
+            if let Some(common) = numbers.get(2736) {
+                print(out, *common)?;
+            }
         }
+        _ => {}
     }
-    out.write_all(b"\n")
+    out.write_all(b"\n")?;
+    // lend N
+    if let [b'l', ..] = line {
+        *lent = number(line, 1);
+    }
+    Ok(())
 }
 
 // At most so many bytes of cases are read.

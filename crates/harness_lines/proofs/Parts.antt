@@ -1,10 +1,8 @@
 -- The two parts of a text, by the place that a search found, and its lines one by one. Assumes nothing.
-use Rattle.std.proofs.Common.{◌≡◌, ℕ, ◌+◌, ◌-◌, ◌≤◌, ◌==◌, Bool, true, false, ltb, Some, None, List, [], ◌∷◌, ◌<◌, length, take, drop, refl, arith}
-use Rattle.std.specs.List.{position, position_or_len, before_first, after_first, slice_split}
+use Rattle.std.proofs.Common.{◌≡◌, ℕ, zero, suc, ◌+◌, ◌-◌, ◌==◌, Bool, true, false, Some, None, List, [], ◌∷◌, ◌<◌, length, take, drop, refl, ap, ◌∙◌, arith}
+use Rattle.std.specs.List.{position, position_or_len, before_first, after_first}
 use Rattle.std.proofs.lemmas.List.Sums.{prefix_len-le-length}
-use Rattle.std.proofs.lemmas.List.Splits.{slice_split-cons_no, slice_split_first, length-slice_split}
-use borrow.Author.Tests.{ltb-true, ltb-false}
-use Rattle.harness_lines.specs.Lines.{part_before, part_behind, ended, lines_of}
+use Rattle.harness_lines.specs.Lines.{part_behind, from_lines}
 use Rattle.std.proofs.lemmas.Grind.{common_steps}
 
 module _ (p : ℕ → Bool) (xs : List ℕ) where
@@ -25,40 +23,28 @@ module _ (p : ℕ → Bool) (xs : List ℕ) where
 
 -- ---- the lines
 
-ended_next : (part : List ℕ) (parts : List (List ℕ)) → 0 < length parts → ended (part ∷ parts) ≡ part ∷ ended parts
-unfolding ended
-ended_next part [] h = absurd (omega arith)
-ended_next part (next ∷ parts) h = refl
+-- behind a byte of a line, by whether it ends the line
+skip : (c : ℕ) (cs : List ℕ) (b : Bool) → (c == 10) ≡ b → from_lines false cs ≡ from_lines true (part_behind 10 cs) → from_lines b cs ≡ from_lines true (part_behind 10 (c ∷ cs))
+skip c cs true e more = grind (arith, common_steps)
+skip c cs false e more = more ∙ ap (from_lines true) (grind (arith, common_steps))
 
-ended_last : (part : List ℕ) → 0 < length part → ended (part ∷ []) ≡ part ∷ []
-unfolding ended
-ended_last [] h = absurd (omega arith)
-ended_last (x ∷ xs) h = refl
+-- from within a line on, the lines are those behind its end
+behind_line : (bytes : List ℕ) → from_lines false bytes ≡ from_lines true (part_behind 10 bytes)
+unfolding from_lines
+behind_line [] = refl
+behind_line (c ∷ cs) = skip c cs (c == 10) refl (behind_line cs)
 
-ended_none : ended ([] ∷ []) ≡ []
-unfolding ended
-ended_none = refl
+lines_next : (bytes : List ℕ) → 0 < length bytes → from_lines true bytes ≡ bytes ∷ from_lines true (part_behind 10 bytes)
+unfolding from_lines
+lines_next [] h = absurd (omega arith)
+lines_next (c ∷ cs) h = ap (λ more. (c ∷ cs) ∷ more) (skip c cs (c == 10) refl (behind_line cs))
 
-pub lines_none : (bytes : List ℕ) → length bytes ≡ 0 → lines_of bytes ≡ []
-unfolding lines_of ended
-lines_none [] h = refl
-lines_none (x ∷ xs) h = absurd (omega arith)
+pub lines_none : (n : ℕ) (bytes : List ℕ) → length bytes ≡ 0 → take n (from_lines true bytes) ≡ []
+unfolding from_lines
+lines_none zero [] h = refl
+lines_none (suc n) [] h = refl
+lines_none n (c ∷ cs) h = absurd (omega arith)
 
-module _ (p : ℕ → Bool) where
-  whole_more : (x : ℕ) (xs : List ℕ) (b : Bool) → p x ≡ b → length (x ∷ xs) ≤ position_or_len p (x ∷ xs) → (length xs ≤ position_or_len p xs → slice_split p xs ≡ xs ∷ []) → slice_split p (x ∷ xs) ≡ (x ∷ xs) ∷ []
-  whole_more x xs true e h more = absurd (grind (arith, common_steps))
-  whole_more x xs false e h more = rw (slice_split-cons_no p x xs e, more (grind (arith, common_steps))) refl
-
-  whole : (xs : List ℕ) → length xs ≤ position_or_len p xs → slice_split p xs ≡ xs ∷ []
-  whole [] h = refl
-  whole (x ∷ xs) h = whole_more x xs (p x) refl h (whole xs)
-
-  parts_next : (bytes : List ℕ) (b : Bool) → ltb (position_or_len p bytes) (length bytes) ≡ b → 0 < length bytes → ended (slice_split p bytes) ≡ before_first p bytes ∷ ended (slice_split p (after_first p bytes))
-  parts_next bytes true e h = rw (slice_split_first p bytes 0 (ltb-true _ _ e)) (ended_next _ _ (omega (arith, length-slice_split p (after_first p bytes))))
-  parts_next bytes false e h =
-      let none : length bytes ≤ position_or_len p bytes = ltb-false _ _ e in
-      rw (whole bytes none) (grind (arith, common_steps, ended_last, ended_none))
-
-pub lines_next : (bytes : List ℕ) → 0 < length bytes → lines_of bytes ≡ part_before 10 bytes ∷ lines_of (part_behind 10 bytes)
-unfolding lines_of
-lines_next bytes h = parts_next (λ x. x == 10) bytes _ refl h
+-- of at most 100,000 lines, line k and those behind it
+pub line_here : (k : ℕ) (bytes : List ℕ) → k < 100000 → 0 < length bytes → take (100000 - k) (from_lines true bytes) ≡ bytes ∷ take (100000 - (k + 1)) (from_lines true (part_behind 10 bytes))
+line_here k bytes l h = let e : 100000 - k ≡ suc (100000 - (k + 1)) = omega arith in rw (e, lines_next bytes h) refl

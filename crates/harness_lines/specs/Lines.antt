@@ -1,7 +1,7 @@
--- Lines of a text, and words and numbers of a line.
+-- Lines of a text, and words and numbers of a line. A line is the text from it on: what it lacks is read on behind it.
 -- Assumes nothing.
-use Rattle.std.specs.Prelude.{ℕ, zero, suc, ◌+◌, ◌-◌, ◌*◌, min, cond, ◌==◌, List, [], ◌∷◌, ltb, eqb, ℤ, pos, neg_ℤ}
-use Rattle.std.specs.List.{before_first, after_first, slice_split}
+use Rattle.std.specs.Prelude.{ℕ, zero, suc, ◌+◌, ◌-◌, ◌*◌, min, Bool, true, false, cond, ◌==◌, List, [], ◌∷◌, ltb, eqb, ℤ, pos, neg_ℤ}
+use Rattle.std.specs.List.{before_first, after_first}
 use Rattle.units.specs.Grounds.{outside}
 
 -- the bytes before the first byte c, all of them where there is none, and those behind it
@@ -11,18 +11,13 @@ part_before c bytes = before_first (λ x. x == c) bytes
 abbrev pub part_behind : ℕ → List ℕ → List ℕ
 part_behind c bytes = after_first (λ x. x == c) bytes
 
--- the parts of a text without an empty last one
-unfoldable pub ended : List (List ℕ) → List (List ℕ)
-ended [] = []
-ended ([] ∷ []) = []
-ended ((c ∷ line) ∷ []) = (c ∷ line) ∷ []
-ended (part ∷ next ∷ parts) = part ∷ ended (next ∷ parts)
+-- the text from each of its lines on; a line begins at the front, where `begins` says so, and behind each line end
+unfoldable pub from_lines : Bool → List ℕ → List (List ℕ)
+from_lines begins [] = []
+from_lines true (c ∷ cs) = (c ∷ cs) ∷ from_lines (c == 10) cs
+from_lines false (c ∷ cs) = from_lines (c == 10) cs
 
--- the lines of a text: each ends before a line end, or the last at the text's end
-unfoldable pub lines_of : List ℕ → List (List ℕ)
-lines_of bytes = ended (slice_split (λ x. x == 10) bytes)
-
--- a line from its word k on; its first is word 0, and a space ends a word
+-- the text from word k on, counted from a line on; the first is word 0, and a space alone ends a word
 unfoldable pub word_in : ℕ → List ℕ → List ℕ
 word_in zero line = line
 word_in (suc k) line = part_behind 32 (word_in k line)
@@ -48,7 +43,7 @@ unfoldable pub signed_of : List ℕ → ℤ
 signed_of [] = pos 0
 signed_of (c ∷ cs) = cond (eqb c 45) (as_negative (digits_of 0 cs)) (as_positive (digits_of 0 (c ∷ cs)))
 
--- the line's number k, and its signed number k
+-- the number at word k, counted from a line on, and the signed number there
 unfoldable pub number_in : List ℕ → ℕ → ℕ
 number_in line k = digits_of 0 (word_in k line)
 

@@ -1,10 +1,11 @@
-// What the test programs share about standard input: its lines, and the words and numbers of a line.
+// What the test programs share about standard input: its lines, and the words and numbers of a line. A line is lent as the text
+// from it on, so what it lacks is read on from what stands behind it.
 #![tactic(auto)]
 
-ghost use Rattle.std.specs.Prelude.{◌≡◌, ◌==◌, position, Ok, OnOk};
+ghost use Rattle.std.specs.Prelude.{◌≡◌, ◌==◌, true, position, take, Ok, OnOk};
 ghost use Rattle.std.specs.Fn.{CalledAt};
 ghost use Rattle.std.specs.List.{FoldsTo};
-ghost use Rattle.harness_lines.specs.Lines.{part_before, part_behind, word_in, with_digit, digits_of, as_positive, as_negative, number_in, signed_in, lines_of};
+ghost use Rattle.harness_lines.specs.Lines.{part_before, part_behind, word_in, with_digit, digits_of, as_positive, as_negative, number_in, signed_in, from_lines};
 
 use std::io;
 
@@ -29,7 +30,8 @@ pub fn split(text: &[u8], c: u8) -> (&[u8], &[u8])
 
 // `word`, `number` and `signed` take a line and a word's number: a struct of the two would be made for one call.
 //
-// The line from its word k on; the first is word 0.
+// The text from word k on, counted from a line on; the first is word 0. A space alone ends a word, so behind the line's last word
+// the words of the next lines count on.
 #[tactic(auto, unfolding(crate::specs::Lines::word_in))]
 pub fn word(line: &[u8], k: u64) -> &[u8]
     ensures { result.now ≡ word_in k line.now }
@@ -67,7 +69,7 @@ fn digits(word: &[u8]) -> u64
     n
 }
 
-// The line's number k.
+// The number at word k, counted from a line on; 0 where no digit stands there.
 #[tactic(auto, unfolding(crate::specs::Lines::number_in))]
 pub fn number(line: &[u8], k: u64) -> u64
     ensures { result ≡ number_in line.now k }
@@ -91,7 +93,7 @@ fn negative(n: u64) -> i64
     i64::try_from(n).map_or(i64::MIN, |x| -x)
 }
 
-// The line's signed number k.
+// The signed number at word k, counted from a line on.
 #[tactic(auto, using(crate::proofs::Lines::signed_minus, crate::proofs::Lines::signed_plain), unfolding(crate::specs::Lines::signed_in, crate::specs::Lines::signed_of))]
 pub fn signed(line: &[u8], k: u64) -> i64
     ensures { result ≡ signed_in line.now k }
@@ -104,18 +106,21 @@ pub fn signed(line: &[u8], k: u64) -> i64
     }
 }
 
-// Calls f at each line of a text, in order, as far as it succeeds.
-#[tactic(auto, using(crate::proofs::Parts::lines_next))]
+// At most so many lines of a text are worked on.
+pub const LINES: u64 = 100000;
+
+// Calls f at the text from each line on, in order, as far as it succeeds and for the first LINES lines.
 pub fn each_line<F: FnMut(&[u8]) -> io::Result<()>>(text: &[u8], mut f: F) -> io::Result<()>
     requires { F.IsAlwaysCallable f }
-    ensures { OnOk result ((last : F) × FoldsTo (λ g line h. CalledAt F.FnMut g line (Ok tt) h) f (lines_of text.now) last) }
+    ensures { OnOk result ((last : F) × FoldsTo (λ g rest h. CalledAt F.FnMut g rest (Ok tt) h) f (take 100000 (from_lines true text.now)) last) }
 {
     let mut rest = text;
-    // std's `split` would give an empty part behind the last line end
-    while !rest.is_empty() {
-        let (line, behind) = split(rest, b'\n');
-        f(line)?;
-        rest = behind;
+    for _line in 0..LINES {
+        if rest.is_empty() {
+            return Ok(());
+        }
+        f(rest)?;
+        rest = split(rest, b'\n').1;
     }
     Ok(())
 }

@@ -21,9 +21,8 @@ fn change(
     runs: &[Run],
     areas: &mut [u64],
 ) -> io::Result<()> {
-    let m = number(line, 2);
-    let n = number(line, 3);
-    let k = number(line, 4);
+    // looked for where it is asked: a number that the line lacks may stand far behind it
+    let n = |k| number(line, k);
     match line {
         // open R L T..
         [b'o', ..] => harness_adds::open(out, run, word(line, 1)),
@@ -36,13 +35,13 @@ fn change(
         }
         // join R A B
         [b'j', ..] => {
-            *run = run_at(runs, m);
-            let joined = joining::join(run, &run_at(runs, n));
+            *run = run_at(runs, n(2));
+            let joined = joining::join(run, &run_at(runs, n(3)));
             print(out, units::answer_number(&joined))
         }
         // take R AREA
         [b't', ..] => {
-            let taken = area_recording::area_run(areas, m);
+            let taken = area_recording::area_run(areas, n(2));
             let number = units::answer_number(&taken);
             *run = harness_adds::given(taken);
             print(out, number)
@@ -54,13 +53,13 @@ fn change(
         // fields R
         [b'f', ..] => print_run(out, run),
         // grams R FUEL QUANTITY
-        [b'g', ..] => print_answer(out, &totals::total(run, m, n)),
+        [b'g', ..] => print_answer(out, &totals::total(run, n(2), n(3))),
         // balance R FUEL QUANTITY S
-        [b'b', ..] => print_answer(out, &balance::balance(run, m, n, k)),
+        [b'b', ..] => print_answer(out, &balance::balance(run, n(2), n(3), n(4))),
         // row R FUEL QUANTITY
-        [b'r', ..] => print_answer(out, &map::row_of(run, m, n)),
+        [b'r', ..] => print_answer(out, &map::row_of(run, n(2), n(3))),
         // print R BYTES
-        [b'p', ..] => print_report(out, run, m),
+        [b'p', ..] => print_report(out, run, n(2)),
         _ => Ok(()),
     }
 }

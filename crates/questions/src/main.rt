@@ -11,8 +11,8 @@ use std::io::{Read, Write};
 // One line: the line itself, then what it does to the run or asks of it.
 fn case(out: &mut impl Write, line: &[u8], run: &mut Run) -> io::Result<()> {
     print_case(out, line)?;
-    let n = number(line, 1);
-    let m = number(line, 2);
+    // looked for where it is asked: a number that the line lacks may stand far behind it
+    let n = |k| number(line, k);
     match line {
         // open L T..
         [b'o', ..] => harness_adds::open(out, run, line)?,
@@ -21,17 +21,17 @@ fn case(out: &mut impl Write, line: &[u8], run: &mut Run) -> io::Result<()> {
         // put FIELD INDEX VALUE
         [b'p', ..] => harness_adds::set(run, line),
         // co2 FUEL R
-        [b'c', ..] => print_answer(out, &fuel::co2(run, n, m))?,
+        [b'c', ..] => print_answer(out, &fuel::co2(run, n(1), n(2)))?,
         // so2 FUEL S
-        [b's', ..] => print_answer(out, &fuel::so2(run, n, m))?,
+        [b's', ..] => print_answer(out, &fuel::so2(run, n(1), n(2)))?,
         // lead FUEL L
-        [b'l', ..] => print_answer(out, &fuel::lead(run, n, m))?,
+        [b'l', ..] => print_answer(out, &fuel::lead(run, n(1), n(2)))?,
         // row FUEL QUANTITY
-        [b'r', ..] => print_answer(out, &map::row_of(run, n, m))?,
+        [b'r', ..] => print_answer(out, &map::row_of(run, n(1), n(2)))?,
         // figure FUEL QUANTITY KIND
         [b'f', ..] => {
-            let kind = harness_runs::kind_of(number(line, 3));
-            print_answer(out, &map::figure_of(run, n, m, kind))?
+            let kind = harness_runs::kind_of(n(3));
+            print_answer(out, &map::figure_of(run, n(1), n(2), kind))?
         }
         _ => {}
     }

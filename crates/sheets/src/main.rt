@@ -1,7 +1,8 @@
 // Reads the sheets that standard input holds, and prints the answer for each. The expected output comes from
 // tools/sheets.py, which calculates it from the specification alone.
 //
-// `+ TIMES BYTES` and a line end, then that many bytes and a line end: the bytes stand so many times in the sheet.
+// `+ TIMES BYTES` and a line end, then that many bytes and a line end: the bytes stand so many times in the sheet, line ends in place
+// of those that standard input lacks.
 // `= LABEL` and a line end: the sheet is whole. Its answer is the label, the number, the line, and the word `zeros` for a
 // run of zeros, else every field of the run and the printed totals.
 #![tactic(auto)]
@@ -9,7 +10,7 @@
 ghost use Rattle.std.specs.Prelude.{◌≤◌, length};
 
 use harness_answers::print_run;
-use harness_lines::{number, split, word};
+use harness_lines::{LINES, number, split, word};
 use harness_prints::{print, print_case, print_numbers};
 use inventory::Run;
 use std::io;
@@ -48,25 +49,40 @@ fn cut(text: &[u8], n: u64) -> (&[u8], &[u8])
     text.split_at_checked(n as usize).unwrap_or((text, &[]))
 }
 
-// Every line, one after another.
+// Puts n bytes behind the sheet, so many times: the first n of a text, and line ends for those that it lacks.
+fn append(sheet: &mut Vec<u8>, text: &[u8], n: u64, times: u64) -> io::Result<()> {
+    let bytes = cut(text, n).0;
+    for _ in 0..times {
+        // nothing comes behind a full sheet
+        if n == 0 || sheet.len() == SHEET {
+            break;
+        }
+        let len = sheet.len().saturating_add(n as usize).min(SHEET);
+        sheet.extend_from_slice(bytes)?;
+        sheet.resize(len, b'\n')?;
+    }
+    Ok(())
+}
+
+// Every line, one after another, at most LINES. The numbers of a `+` are counted over the text from its line on.
 fn lines(out: &mut impl Write, cases: &[u8], sheet: &mut Vec<u8>) -> io::Result<()> {
     let mut rest = cases;
     // a sheet's bytes have line ends of their own, so no iterator over lines serves
-    while !rest.is_empty() {
+    for _ in 0..LINES {
+        if rest.is_empty() {
+            break;
+        }
         let (line, behind) = split(rest, b'\n');
-        rest = behind;
         if let [b'+', ..] = line {
-            let (bytes, more) = cut(behind, number(line, 2));
-            for _ in 0..number(line, 1) {
-                sheet.extend_from_slice(bytes)?;
-                sheet.truncate(SHEET);
-            }
-            rest = cut(more, 1).1;
+            let n = number(rest, 2);
+            append(sheet, behind, n, number(rest, 1))?;
+            rest = cut(cut(behind, n).1, 1).1;
         } else {
             print_case(out, word(line, 1))?;
             print_sheet(out, sheet)?;
             out.write_all(b"\n")?;
             sheet.clear();
+            rest = behind;
         }
     }
     Ok(())

@@ -27,9 +27,8 @@ fn list(out: &mut impl Write, run: &Run) -> io::Result<()> {
 // One line: the line itself, then what it does to the run or asks of it.
 fn case(out: &mut impl Write, line: &[u8], run: &mut Run) -> io::Result<()> {
     print_case(out, line)?;
-    let n = number(line, 1);
-    let m = number(line, 2);
-    let k = number(line, 3);
+    // looked for where it is asked: a number that the line lacks may stand far behind it
+    let n = |k| number(line, k);
     match line {
         // open L T..
         [b'o', ..] => harness_adds::open(out, run, line)?,
@@ -38,16 +37,16 @@ fn case(out: &mut impl Write, line: &[u8], run: &mut Run) -> io::Result<()> {
         // set FIELD INDEX VALUE
         [b's', ..] => harness_adds::set(run, line),
         // total FUEL QUANTITY
-        [b't', ..] => print_answer(out, &totals::total(run, n, m))?,
+        [b't', ..] => print_answer(out, &totals::total(run, n(1), n(2)))?,
         // kind FUEL QUANTITY KIND
         [b'k', ..] => {
-            let kind = harness_runs::kind_of(k);
-            print_answer(out, &totals::kind_total(run, n, m, kind))?
+            let kind = harness_runs::kind_of(n(3));
+            print_answer(out, &totals::kind_total(run, n(1), n(2), kind))?
         }
         // balance FUEL QUANTITY S
-        [b'b', ..] => print_answer(out, &balance::balance(run, n, m, k))?,
+        [b'b', ..] => print_answer(out, &balance::balance(run, n(1), n(2), n(3)))?,
         // report BYTES
-        [b'r', ..] => print_report(out, run, n)?,
+        [b'r', ..] => print_report(out, run, n(1))?,
         // list
         [b'l', ..] => list(out, run)?,
         // fields
