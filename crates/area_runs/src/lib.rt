@@ -1,7 +1,7 @@
 // The run of an area: read from its numbers, and written to them.
 #![tactic(auto)]
 
-ghost use Rattle.std.specs.Prelude.{◌≡◌, ℕ, ◌<◌, length};
+ghost use Rattle.std.specs.Prelude.{◌≡◌, ℕ, ◌+◌, ◌≤◌, ◌<◌, length};
 ghost use Rattle.units.specs.Lists.{tab};
 ghost use Rattle.areas.specs.Numbers.{run_at, run_number};
 
@@ -23,6 +23,17 @@ pub fn run_of(area: &AreaRun) -> Run
         total_grams: array::from_fn(|k| area.total(k).grams),
         total_rests: array::from_fn(|k| area.total(k).rest),
     }
+}
+
+// The run in the 171 numbers from a place on.
+#[tactic(auto, using(areas::proofs::Numbers::run_between))]
+pub fn run_at(numbers: &[u64], at: usize) -> Run
+    requires { at + 171 ≤ length numbers.now }
+    ensures { result ≡ run_at numbers.now at }
+{
+    run_of(&AreaRun {
+        numbers: &numbers[at..at + 171],
+    })
 }
 
 // Writes what the closure gives to each place in turn.

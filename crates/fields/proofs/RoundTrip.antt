@@ -8,7 +8,7 @@ use native.Mathlib.Omega.{arith}
 use lib.ListN.{length, get_or, drop, take, take-append-drop}
 use lib.Seq.{drop-cons}
 use lib.Dec.{ltb, eqb}
-use borrow.Author.Tests.{eqb-true, eqb-false, lt-ltb, ne_eqb, not-true}
+use borrow.Author.Tests.{eqb-true, eqb-false, lt-ltb, ltb-true, ne_eqb, not-true}
 use Rattle.fields.specs.Field.{State, blank, signed, digits, wrong, is_digit, step, scan, said, parse}
 use Rattle.text.specs.Render.{glyph_of, pad, render, render_minus}
 use Rattle.std.specs.Prelude.{pos, negsuc, neg_ℤ, Some, None}
@@ -213,6 +213,66 @@ only f n e = said_is (scan blank f) f (scan_is blank [] f refl) n e
 pub only_minus : (f : List ℕ) (n : ℕ) → parse f ≡ Some (negsuc n) → f ≡ render_minus (length f) (suc n)
 unfolding Is parse
 only_minus f n e = said_is_minus (scan blank f) f (scan_is blank [] f refl) n e
+
+-- ---- a field says at most nine digits
+
+Small : State → Type 0
+Small blank = Unit
+Small signed = Unit
+Small (digits minus n) = n < 1000000000
+Small wrong = Unit
+
+small_first : (minus : Bool) (b : ℕ) (t : Bool) → (is_digit b && not (minus && eqb b 48)) ≡ t → Small (cond t (digits minus (b - 48)) wrong)
+unfolding Small
+small_first minus b true e = omega (arith, (digit_back b (and_both (is_digit b) (not (minus && eqb b 48)) e).0).1)
+small_first minus b false e = tt
+
+small_next : (minus : Bool) (n b : ℕ) (t : Bool) → (is_digit b && not (eqb n 0) && ltb n 100000000) ≡ t → Small (cond t (digits minus (n * 10 + (b - 48))) wrong)
+unfolding Small
+small_next minus n b true e =
+    let a = and_both (is_digit b && not (eqb n 0)) (ltb n 100000000) e in
+    omega (arith, (digit_back b (and_both (is_digit b) (not (eqb n 0)) a.0).0).1, ltb-true n 100000000 a.1)
+small_next minus n b false e = tt
+
+step_small : (s : State) (b : ℕ) → Small (step s b)
+unfolding Small
+step_small blank b =
+    cond_cases Small (eqb b 32) _ _ (λ _. tt) (λ _. cond_cases Small (eqb b 45) _ _ (λ _. tt) (λ _. small_first false b (is_digit b && true) refl))
+step_small signed b = small_first true b (is_digit b && not (eqb b 48)) refl
+step_small (digits minus n) b = small_next minus n b (is_digit b && not (eqb n 0) && ltb n 100000000) refl
+step_small wrong b = tt
+
+scan_small : (s : State) (bs : List ℕ) → Small s → Small (scan s bs)
+unfolding scan
+scan_small s [] h = h
+scan_small s (b ∷ bs) h = scan_small (step s b) bs (step_small s b)
+
+said_small : (s : State) → Small s → (n : ℕ) → said s ≡ Some (pos n) → n < 1000000000
+unfolding Small
+said_small blank h n e = let z : ◌≡◌ {A = ℕ} 0 1 = cc in absurd (omega arith)
+said_small signed h n e = let z : ◌≡◌ {A = ℕ} 0 1 = cc in absurd (omega arith)
+said_small (digits false m) h n e = let q : m ≡ n = cc in omega arith
+said_small (digits true zero) h n e = let q : 0 ≡ n = cc in omega arith
+said_small (digits true (suc m)) h n e = let z : ◌≡◌ {A = ℕ} 0 1 = cc in absurd (omega arith)
+said_small wrong h n e = let z : ◌≡◌ {A = ℕ} 0 1 = cc in absurd (omega arith)
+
+said_small_minus : (s : State) → Small s → (n : ℕ) → said s ≡ Some (negsuc n) → suc n < 1000000000
+unfolding Small
+said_small_minus blank h n e = let z : ◌≡◌ {A = ℕ} 0 1 = cc in absurd (omega arith)
+said_small_minus signed h n e = let z : ◌≡◌ {A = ℕ} 0 1 = cc in absurd (omega arith)
+said_small_minus (digits false m) h n e = let z : ◌≡◌ {A = ℕ} 0 1 = cc in absurd (omega arith)
+said_small_minus (digits true zero) h n e = let z : ◌≡◌ {A = ℕ} 0 1 = cc in absurd (omega arith)
+said_small_minus (digits true (suc m)) h n e = let q : m ≡ n = cc in omega arith
+said_small_minus wrong h n e = let z : ◌≡◌ {A = ℕ} 0 1 = cc in absurd (omega arith)
+
+-- a field says a number of at most nine digits
+pub small : (f : List ℕ) (n : ℕ) → parse f ≡ Some (pos n) → n < 1000000000
+unfolding Small parse
+small f n e = said_small (scan blank f) (scan_small blank f tt) n e
+
+pub small_minus : (f : List ℕ) (n : ℕ) → parse f ≡ Some (negsuc n) → suc n < 1000000000
+unfolding Small parse
+small_minus f n e = said_small_minus (scan blank f) (scan_small blank f tt) n e
 
 -- ---- a field with LF in it is no number
 

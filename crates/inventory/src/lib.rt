@@ -9,7 +9,8 @@ mod numbers;
 
 use calendar::Period;
 pub use numbers::RunNumbers;
-use units::{Grams, Speeds, VehicleKm};
+pub use units::Speeds;
+use units::{Grams, VehicleKm};
 
 // A head: the mean trip length in tenths of km, twelve monthly mean temperatures in tenths of a degree Celsius, and what it
 // covers: the whole year, or the days from one date to another.

@@ -1,7 +1,7 @@
 // The numbers of a line of a sheet: the head of line 1, and the record of any other line.
 #![tactic(auto)]
 
-ghost use Rattle.std.specs.Prelude.{◌≡◌, false, ◌≤◌, length, drop, replicate, option_and_then, option_map};
+ghost use Rattle.std.specs.Prelude.{◌≡◌, false, ◌+◌, ◌≤◌, [], ◌∷◌, ◌++◌, length, take, drop, replicate, option_and_then, option_map};
 ghost use Rattle.lines.specs.Lines.{lines, first_of, head_widths, fields, numbers_in};
 ghost use Rattle.lines.specs.Records.{head_over, head_of, record_of};
 ghost use Rattle.lines.specs.Reading.{head_line};
@@ -88,4 +88,14 @@ pub fn record_in(line: &[u8]) -> Option<Record>
             highway: Speed(fields::read_count(&line[36..40])?),
         },
     })
+}
+
+// The record in the 40 bytes from a place on, whatever stands behind them.
+pub fn record_at(s: &[u8], at: usize) -> Option<Record>
+    requires { at + 40 ≤ length s.now }
+    ensures { result ≡ record_of (take 40 (drop at s.now) ++ (10 ∷ [])) }
+{
+    let mut line = [b'\n'; 41];
+    line[..40].copy_from_slice(&s[at..at + 40]);
+    record_in(&line)
 }

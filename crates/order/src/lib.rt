@@ -9,11 +9,18 @@ ghost use Rattle.inventory.specs.Order.{in_order, x_ok, km_ok, sums_ok, same_hea
 
 use inventory::RunNumbers;
 
+// Whether each X is in range.
+pub fn xs_ok<R: RunNumbers>(run: &R) -> bool
+    ensures { result ≡ all_below (x_ok (R.run run.now)) x_count }
+{
+    (0..16).all(|i| run.x(i) <= 4900000000)
+}
+
 // Whether L and each X are in range.
 pub fn head_ok<R: RunNumbers>(run: &R) -> bool
     ensures { result ≡ (not (outside 10 200 (R.run run.now).trip) && all_below (x_ok (R.run run.now)) x_count) }
 {
-    !units::is_outside(10, 200, run.trip()) && (0..16).all(|i| run.x(i) <= 4900000000)
+    !units::is_outside(10, 200, run.trip()) && xs_ok(run)
 }
 
 // A RunNumbers may be in no order, so no type carries the count's bound: here, in run_sums and in stored_totals it is one comparison.
